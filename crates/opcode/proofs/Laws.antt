@@ -1,0 +1,92 @@
+-- What stands at each place after an insertion and a removal, and the sum of six places. Assumes nothing.
+use mathlib.Core.Path.{_≡_, refl, sym, ap, _∙_}
+use mathlib.Core.List.{List, [], _∷_, _++_, append-nil}
+use Prim.Native.Nat.{ℕ, suc, _+_, _-_, _<_, _≤_}
+use native.Mathlib.Omega.{arith}
+use lib.ListN.{length, take, drop, getD, length-map, length-take, drop-of-length-le, List·getD-append, List·getD-eq-default}
+use lib.Seq.{getD-take, getD-drop, getD-append-add, length-take-le, take-all}
+use native.Mathlib.Nat.{min-le-left}
+use mir.Val.{Val}
+use denote.Laws.{Is}
+use denote.Struct.Laws as LL
+use Rattle.opcode.proofs.record.OpCode as T
+use Rattle.opcode.proofs.record.OpCode.Laws as T′
+use borrow.Author.Tests.{le-ltb}
+use Rattle.opcode.specs.declared.counts.TStates.{TStates}
+use Rattle.opcode.specs.declared.timing.Timing.{Timing}
+use Rattle.opcode.specs.declared.record.OpCode.{OpCode}
+use Rattle.opcode.specs.Record.{zero, sum}
+use Rattle.opcode.specs.Timing.{inserted, removed, insertOf, extendOf, listed}
+
+-- the lengths of a record's arrays, from what a function that takes the record r is told: `six-places (c .args .r) _ (c .good .0)`, with `.good .1 .0` for a second parameter
+pub six-places : (r : OpCode) (vs : List Val) → Is T.the-row r vs → length (r .tstates) ≡ 6
+six-places r vs is = sym (length-map (r .tstates) _) ∙ LL.owed T.the-type T′.the-laws r vs is .1 .1 .1 .1 .1 .1 .0 .1 .0 .1
+
+pub four-bytes : (r : OpCode) (vs : List Val) → Is T.the-row r vs → length (r .«data») ≡ 4
+four-bytes r vs is = sym (length-map (r .«data») _) ∙ LL.owed T.the-type T′.the-laws r vs is .1 .1 .1 .1 .1 .0 .1 .0 .1
+
+-- past the first of two lists
+pub past : (xs ys : List TStates) (k : ℕ) → length xs ≤ k → getD (xs ++ ys) k zero ≡ getD ys (k - length xs) zero
+past xs ys k h = let e : k ≡ length xs + (k - length xs) = omega arith in ap (λ (j : ℕ). getD (xs ++ ys) j zero) e ∙ getD-append-add xs ys (k - length xs) zero
+
+module _ (l s : List TStates) (pos k : ℕ) (fits : pos ≤ length l) where
+  front-len : length (take pos l) ≡ pos
+  front-len = length-take-le pos l fits
+
+  pub ins-front : k < pos → getD (inserted l pos s) k zero ≡ getD l k zero
+  unfolding inserted
+  ins-front h = List·getD-append (take pos l) (s ++ drop pos l) zero k (omega (arith, front-len)) ∙ getD-take pos l k zero h
+
+  pub ins-mid : pos ≤ k → k < pos + length s → getD (inserted l pos s) k zero ≡ getD s (k - pos) zero
+  unfolding inserted
+  ins-mid h g =
+      past (take pos l) (s ++ drop pos l) k (omega (arith, front-len))
+      ∙ rw front-len (List·getD-append s (drop pos l) zero (k - pos) (omega arith))
+
+  pub ins-back : pos + length s ≤ k → getD (inserted l pos s) k zero ≡ getD l (k - length s) zero
+  unfolding inserted
+  ins-back h =
+      past (take pos l) (s ++ drop pos l) k (omega (arith, front-len))
+      ∙ rw front-len (past s (drop pos l) (k - pos) (omega arith))
+      ∙ getD-drop pos l (k - pos - length s) zero
+      ∙ ap (λ (j : ℕ). getD l j zero) (omega arith)
+
+  pub rem-front : k < pos → getD (removed l pos) k zero ≡ getD l k zero
+  unfolding removed
+  rem-front h = List·getD-append (take pos l) (drop (pos + 1) l) zero k (omega (arith, front-len)) ∙ getD-take pos l k zero h
+
+  pub rem-back : pos ≤ k → getD (removed l pos) k zero ≡ getD l (k + 1) zero
+  unfolding removed
+  rem-back h =
+      let e : pos + 1 + (k - pos) ≡ k + 1 = omega arith in
+      past (take pos l) (drop (pos + 1) l) k (omega (arith, front-len))
+      ∙ rw front-len (getD-drop (pos + 1) l (k - pos) zero)
+      ∙ ap (λ (j : ℕ). getD l j zero) e
+
+-- past the filled places
+pub blank : (m : ℕ) (t : List TStates) (k : ℕ) → m ≤ length t → m ≤ k → getD (take m t) k zero ≡ zero
+blank m t k h g = List·getD-eq-default (take m t) zero (omega (arith, length-take-le m t h))
+
+-- put in at the end: appended
+pub ins-end : (m : ℕ) (t s : List TStates) → inserted (take m t) m s ≡ take m t ++ s
+unfolding inserted
+ins-end m t s =
+    let h : length (take m t) ≤ m = rw (length-take m t) (min-le-left m (length t)) in
+    rw (take-all m (take m t) h, drop-of-length-le (take m t) h, append-nil)
+
+pub extended : (r : OpCode) (x : Timing) → insertOf r (r .mcycles .0) x ≡ extendOf r x
+unfolding insertOf extendOf
+extended r x = rw (le-ltb (r .mcycles .0) (r .mcycles .0) (omega arith), ins-end (r .mcycles .0) (r .tstates) (listed x))
+
+-- six places, added one by one
+pub sum-six : (l : List TStates) → length l ≡ 6 → getD l 0 zero .0 + getD l 1 zero .0 + getD l 2 zero .0 + getD l 3 zero .0 + getD l 4 zero .0 + getD l 5 zero .0 ≡ sum l
+unfolding sum
+sum-six [] h = omega arith
+sum-six (a ∷ []) h = omega arith
+sum-six (a ∷ b ∷ []) h = omega arith
+sum-six (a ∷ b ∷ c ∷ []) h = omega arith
+sum-six (a ∷ b ∷ c ∷ d ∷ []) h = omega arith
+sum-six (a ∷ b ∷ c ∷ d ∷ e ∷ []) h = omega arith
+sum-six (a ∷ b ∷ c ∷ d ∷ e ∷ f ∷ []) h =
+    let g : a .0 + b .0 + c .0 + d .0 + e .0 + f .0 ≡ a .0 + (b .0 + (c .0 + (d .0 + (e .0 + (f .0 + 0))))) = omega arith in g
+sum-six (a ∷ b ∷ c ∷ d ∷ e ∷ f ∷ g ∷ l) h = omega arith

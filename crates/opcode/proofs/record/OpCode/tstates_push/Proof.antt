@@ -1,0 +1,14 @@
+use Rattle.opcode.specs.Timing.{extendOf, pushOf}
+use borrow.Author.Needs.{needs}
+use Rattle.opcode.proofs.record.OpCode.tstates_push.Statement.{statement}
+use Rattle.opcode.proofs.record.OpCode.tstates_push.Tie as tie
+
+tstates-extend-requires : tie.Need-tstates-extend-requires
+tstates-extend-requires c κs = search needs
+
+returns : tie.Need-returns
+unfolding extendOf pushOf
+returns c = c .tstates-extend .ensures
+
+pub tstates-push-spec : {M : Type 1} → statement M
+tstates-push-spec = tie.close (tie.spec tstates-extend-requires returns)

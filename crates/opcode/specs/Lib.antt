@@ -1,0 +1,3 @@
+pub mod Operand
+pub mod Record
+pub mod Timing

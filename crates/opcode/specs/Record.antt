@@ -1,0 +1,38 @@
+-- The empty record, six T-state places, and the row time. Definitions only.
+use Prim.Native.Nat.{ℕ, _+_}
+use mathlib.Core.List.{List, [], _∷_}
+use lib.ListN.{getD}
+use Rattle.opcode.specs.declared.counts.TStates.{TStates}
+use Rattle.opcode.specs.declared.counts.RowTime.{RowTime}
+use Rattle.opcode.specs.declared.instruction.Instruction.{Instruction}
+use Rattle.opcode.specs.declared.operand.Place.{Place}
+use Rattle.opcode.specs.declared.record.OpCode.{OpCode}
+
+abbrev pub zero : TStates
+zero = record { 0 = 0 }
+
+-- six places: the list, and zeros past its end
+abbrev pub six : List TStates → List TStates
+six l = getD l 0 zero ∷ getD l 1 zero ∷ getD l 2 zero ∷ getD l 3 zero ∷ getD l 4 zero ∷ getD l 5 zero ∷ []
+
+-- NOP, length 0, no operands, data and T-states zero, machine cycles 0
+abbrev pub emptyOf : OpCode
+emptyOf =
+    record {
+      length = record { 0 = 0 };
+      ins = Instruction.NOP;
+      op1 = Place.Empty;
+      op2 = Place.Empty;
+      op3 = Place.Empty;
+      «data» = 0 ∷ 0 ∷ 0 ∷ 0 ∷ [];
+      tstates = six [];
+      mcycles = record { 0 = 0 };
+    }
+
+unfoldable pub sum : List TStates → ℕ
+sum [] = 0
+sum (t ∷ ts) = t .0 + sum ts
+
+-- the row time: the sum of the six places, also where a place behind the filled ones is not zero
+abbrev pub timeOf : OpCode → RowTime
+timeOf r = record { 0 = sum (r .tstates) }

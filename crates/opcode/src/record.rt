@@ -1,0 +1,64 @@
+// The record of a decoded row.
+ghost use mathlib.Core.Path.{_≡_};
+ghost use Rattle.opcode.specs.Record.{emptyOf, timeOf};
+use super::counts::Bytes;
+use super::counts::MCycles;
+use super::counts::RowTime;
+use super::counts::TStates;
+use super::instruction::Instruction;
+use super::operand::Place;
+
+// The first `mcycles` of the six T-state places are filled and the rest are zero; `data` is the input, padded with zeros.
+pub struct OpCode {
+    pub length: Bytes,
+    pub ins: Instruction,
+    pub op1: Place,
+    pub op2: Place,
+    pub op3: Place,
+    pub data: [u8; 4],
+    pub tstates: [TStates; 6],
+    pub mcycles: MCycles,
+}
+
+impl OpCode {
+    // The largest text of a decoded record, in bytes.
+    pub const TEXT_MAX: usize = 52;
+
+    // The largest length of a row, in bytes.
+    pub const LENGTH_MAX: usize = 4;
+
+    // The T-state places of a record.
+    pub const PLACES: usize = 6;
+
+    // The empty record, which every refusal returns.
+    pub fn new() -> OpCode
+        ensures { λ r. ⌜ r ≡ emptyOf ⌝ }
+    {
+        OpCode {
+            length: Bytes(0),
+            ins: Instruction::NOP,
+            op1: Place::Empty,
+            op2: Place::Empty,
+            op3: Place::Empty,
+            data: [0; 4],
+            tstates: [TStates(0); 6],
+            mcycles: MCycles(0),
+        }
+    }
+
+    // The row time: the sum of the six places, whatever `mcycles` says.
+    pub fn row_time(self) -> RowTime
+        ensures { λ t. ⌜ t ≡ timeOf self ⌝ }
+    {
+        let t = self.tstates;
+        let a = t[0];
+        let b = t[1];
+        let c = t[2];
+        let d = t[3];
+        let e = t[4];
+        let f = t[5];
+        RowTime(
+            (a.0 as u16) + (b.0 as u16) + (c.0 as u16) + (d.0 as u16) + (e.0 as u16) + (f.0 as u16),
+        )
+    }
+}

@@ -1,0 +1,89 @@
+-- Document 01's starred rows, as one list. Definitions only.
+use Prim.Native.Nat.{ℕ}
+use mathlib.Core.Path.{_≡_}
+use mathlib.Core.List.{List, [], _∷_, _++_}
+use lib.IntN.{pos, negsuc}
+use lib.ListN.{length, take}
+use Rattle.opcode.specs.declared.counts.TStates.{TStates}
+use Rattle.opcode.specs.declared.registers.Reg8.{Reg8}
+use Rattle.opcode.specs.declared.registers.Reg16.{Reg16}
+use Rattle.opcode.specs.declared.registers.RegI.{RegI}
+use Rattle.opcode.specs.declared.operand.Operand.{Operand}
+use Rattle.opcode.specs.declared.operand.Operand.the-variants.{Imm8, Imm16, RelAddr, RegAddr, RegIOAddr, IgnoreIO}
+use Rattle.opcode.specs.declared.operand.Place.{Place}
+use Rattle.opcode.specs.declared.instruction.Instruction.{Instruction}
+use Rattle.opcode.specs.declared.instruction.Instruction.the-variants.{BIT, DJNZ, IN, INC, JR, LD, NOP, SBC, SET}
+use Rattle.opcode.specs.Record.{emptyOf}
+use Rattle.table.specs.declared.Answer.{Answer}
+use Rattle.table.specs.declared.Answer.the-variants.{Short, Long}
+use Rattle.table.specs.declared.Decoded.{Decoded}
+use Rattle.table.specs.Decode.{decodeOf}
+
+pub data Starred : Type 0 where
+  -- bytes that decode to a length, an instruction, operands and T-states
+  reads : List ℕ → ℕ → Instruction → List Operand → List ℕ → Starred
+  -- bytes that are refused
+  refuses : List ℕ → Answer → Starred
+  -- any five bytes are refused
+  five : Answer → Starred
+
+abbrev pub starred : List Starred
+starred =
+    reads (0x00 ∷ []) 1 NOP [] (4 ∷ [])
+    ∷ reads (0x18 ∷ 0x80 ∷ []) 2 JR (RelAddr (negsuc 125) ∷ []) (4 ∷ 3 ∷ 5 ∷ [])
+    ∷ reads (0x18 ∷ 0x7F ∷ []) 2 JR (RelAddr (pos 129) ∷ []) (4 ∷ 3 ∷ 5 ∷ [])
+    ∷ reads (0x10 ∷ 0xFE ∷ []) 2 DJNZ (RelAddr (pos 0) ∷ []) (5 ∷ 3 ∷ 5 ∷ [])
+    ∷ reads (0xCB ∷ 0x46 ∷ []) 2 BIT (Imm8 0x00 ∷ RegAddr Reg16.HL ∷ []) (4 ∷ 4 ∷ 4 ∷ [])
+    ∷ reads (0xED ∷ 0x70 ∷ []) 2 IN (Operand.Reg8 Reg8.A ∷ RegIOAddr Reg8.C ∷ IgnoreIO ∷ []) (4 ∷ 4 ∷ 4 ∷ [])
+    ∷ reads (0xDD ∷ 0x36 ∷ 0x80 ∷ 0x07 ∷ []) 4 LD (Operand.RegI (RegI.IX (negsuc 127)) ∷ Imm8 0x07 ∷ []) (4 ∷ 4 ∷ 3 ∷ 5 ∷ 3 ∷ [])
+    ∷ reads (0xDD ∷ 0x66 ∷ 0x05 ∷ 0x00 ∷ []) 3 LD (Operand.Reg8 Reg8.H ∷ Operand.RegI (RegI.IX (pos 5)) ∷ []) (4 ∷ 4 ∷ 3 ∷ 5 ∷ 3 ∷ [])
+    ∷ reads (0xDD ∷ 0x23 ∷ 0x00 ∷ 0x00 ∷ []) 2 INC (Operand.Reg16 Reg16.IX ∷ []) (6 ∷ 4 ∷ [])
+    ∷ refuses (0xDD ∷ 0x23 ∷ 0x00 ∷ []) Short
+    ∷ reads (0xDD ∷ 0x01 ∷ 0x34 ∷ 0x12 ∷ []) 1 NOP (Operand.Reg16 Reg16.BC ∷ Imm16 0x1234 ∷ []) (4 ∷ 3 ∷ 3 ∷ [])
+    ∷ reads (0xED ∷ 0x00 ∷ 0x00 ∷ 0x00 ∷ []) 1 NOP [] (4 ∷ [])
+    ∷ refuses (0xED ∷ 0x00 ∷ 0x00 ∷ []) Short
+    ∷ reads (0xFD ∷ 0xCB ∷ 0x7F ∷ 0xC6 ∷ []) 4 SET (Imm8 0x00 ∷ Operand.RegI (RegI.IY (pos 127)) ∷ []) (4 ∷ 4 ∷ 3 ∷ 5 ∷ 4 ∷ 3 ∷ [])
+    ∷ reads (0xDD ∷ 0xED ∷ 0x62 ∷ 0x00 ∷ []) 3 SBC (Operand.Reg16 Reg16.IX ∷ Operand.Reg16 Reg16.IX ∷ []) (4 ∷ 4 ∷ 4 ∷ 4 ∷ 3 ∷ [])
+    ∷ five Long
+    ∷ []
+
+-- the operand places, those behind the last operand being empty
+abbrev pub placeOf : List Operand → Place
+placeOf [] = Place.Empty
+placeOf (o ∷ os) = Place.Of o
+
+abbrev pub rest : List Operand → List Operand
+rest [] = []
+rest (o ∷ os) = os
+
+abbrev pub asStates : List ℕ → List TStates
+asStates [] = []
+asStates (t ∷ ts) = record { 0 = t } ∷ asStates ts
+
+abbrev pub zeros : List ℕ
+zeros = 0 ∷ 0 ∷ 0 ∷ 0 ∷ 0 ∷ 0 ∷ []
+
+-- what a claim says: answer and every field of the record, data and T-states padded with zeros
+abbrev pub Holds : Starred → Type 0
+Holds (reads s n i os ts) =
+    decodeOf s
+    ≡ record {
+      answer = Answer.Done;
+      rec =
+          record {
+            length = record { 0 = n };
+            ins = i;
+            op1 = placeOf os;
+            op2 = placeOf (rest os);
+            op3 = placeOf (rest (rest os));
+            «data» = take 4 (s ++ zeros);
+            tstates = asStates (take 6 (ts ++ zeros));
+            mcycles = record { 0 = length ts };
+          };
+    }
+Holds (refuses s a) = decodeOf s ≡ record { answer = a; rec = emptyOf }
+Holds (five a) = (b0 b1 b2 b3 b4 : ℕ) → decodeOf (b0 ∷ b1 ∷ b2 ∷ b3 ∷ b4 ∷ []) ≡ record { answer = a; rec = emptyOf }
+
+abbrev pub All : List Starred → Type 0
+All [] = Unit {0}
+All (x ∷ xs) = Holds x × All xs

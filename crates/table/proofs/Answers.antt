@@ -1,0 +1,254 @@
+-- The answer is Nothing, Short, Long or Done exactly when document 01's table of numbers says so.
+-- Assumes nothing.
+use mathlib.Core.Path.{_≡_, refl, sym, ap, subst, _∙_}
+use mathlib.Core.Logic.{_⊎_, inl, inr, ⊎-elim, _↔_}
+use mathlib.Core.Bool.{Bool, true, false, cond, _||_, true≢false}
+use mathlib.Core.List.{List}
+use Prim.Native.Nat.{ℕ, _<_, _≤_}
+use native.Mathlib.Omega.{arith}
+use lib.Dec.{T, eqb, ltb, ltb→lt}
+use lib.ListN.{length, getD}
+use borrow.Author.Tests.{eqb-true, eqb-false, ltb-true, ltb-false, eq-eqb, ne-eqb, lt-ltb, le-ltb}
+use Rattle.opcode.specs.declared.record.OpCode.{OpCode}
+use Rattle.table.specs.declared.Answer.{Answer}
+use Rattle.table.specs.Row.{Row, row, gap}
+use Rattle.table.specs.Departures.{needed, neededBehind}
+use Rattle.table.specs.Plain.{plain}
+use Rattle.table.specs.Cb.{cb}
+use Rattle.table.specs.Ed.{ed}
+use Rattle.table.specs.Decode.{numberOf, isPrefix, pageRow, rowOf, operandBytes, recordOf, four, neededOf, decodeOf}
+use Rattle.table.proofs.Upto.{values, agree}
+use Rattle.table.proofs.Pages.{every, at-code}
+use Rattle.table.proofs.Done.{verdict}
+use Rattle.table.proofs.Sizes.{needed-at-most}
+
+-- a list of bytes
+abbrev pub Bytes : List ℕ → Type 0
+Bytes s = (k : ℕ) → getD s k 0 < 256
+
+abbrev pub first : List ℕ → ℕ
+first s = getD s 0 0
+
+abbrev pub second : List ℕ → ℕ
+second s = getD s 1 0
+
+-- the first is DD or FD
+abbrev pub Prefixed : List ℕ → Type 0
+Prefixed s = (first s ≡ 0xDD) ⊎ (first s ≡ 0xFD)
+
+-- CB or ED with its code yet to come: fewer than the length of every row of its page
+abbrev pub Alone : List ℕ → Type 0
+Alone s = (length s ≡ 1) × ((first s ≡ 0xCB) ⊎ (first s ≡ 0xED))
+
+-- the code is an undefined ED one
+abbrev pub Undefined : List ℕ → Type 0
+Undefined s = (1 < length s) × (first s ≡ 0xED) × (getD ed (second s) gap ≡ gap)
+
+-- a row's length in bytes
+abbrev pub lengthOf : Row → ℕ
+lengthOf gap = 0
+lengthOf (row i x y z n t) = n
+
+-- fewer than the row's length
+abbrev pub Cut : List ℕ → Type 0
+Cut s = length s < lengthOf (pageRow (first s) (second s))
+
+abbrev pub NothingWhen : List ℕ → Type 0
+NothingWhen s = length s ≡ 0
+
+abbrev pub LongWhen : List ℕ → Type 0
+LongWhen s = 4 < length s
+
+-- one to three bytes: fewer than the row's length, or fewer than four where the first is DD or FD or the code is an undefined ED one
+abbrev pub ShortWhen : List ℕ → Type 0
+ShortWhen s = (1 ≤ length s) × (length s ≤ 3) × (Prefixed s ⊎ (Undefined s ⊎ (Alone s ⊎ Cut s)))
+
+-- what the three tests of `verdict` say of its answer
+module _ (r : OpCode) where
+  tells-nothing : (a b c : Bool) → verdict a b c r .answer ≡ Answer.Nothing → a ≡ true
+  tells-nothing true b c e = refl
+  tells-nothing false true c e = absurd (omega (arith, ap numberOf e))
+  tells-nothing false false true e = absurd (omega (arith, ap numberOf e))
+  tells-nothing false false false e = absurd (omega (arith, ap numberOf e))
+
+  tells-long : (a b c : Bool) → verdict a b c r .answer ≡ Answer.Long → b ≡ true
+  tells-long true b c e = absurd (omega (arith, ap numberOf e))
+  tells-long false true c e = refl
+  tells-long false false true e = absurd (omega (arith, ap numberOf e))
+  tells-long false false false e = absurd (omega (arith, ap numberOf e))
+
+  tells-short : (a b c : Bool) → verdict a b c r .answer ≡ Answer.Short → (a ≡ false) × (b ≡ false) × (c ≡ true)
+  tells-short true b c e = absurd (omega (arith, ap numberOf e))
+  tells-short false true c e = absurd (omega (arith, ap numberOf e))
+  tells-short false false true e = (refl, refl, refl)
+  tells-short false false false e = absurd (omega (arith, ap numberOf e))
+
+either : (a b : Bool) → (a || b) ≡ true → (a ≡ true) ⊎ (b ≡ true)
+either true b e = inl refl
+either false b e = inr e
+
+neither : (a b : Bool) → (a || b) ≡ false → (a ≡ false) × (b ≡ false)
+neither true b e = absurd (true≢false e)
+neither false b e = (refl, e)
+
+prefixed : (b : ℕ) → isPrefix b ≡ true → (b ≡ 0xDD) ⊎ (b ≡ 0xFD)
+prefixed b e = ⊎-elim (λ t. inl (eqb-true b 0xDD t)) (λ t. inr (eqb-true b 0xFD t)) (either (eqb b 0xDD) (eqb b 0xFD) e)
+
+is-prefixed : (b : ℕ) → (b ≡ 0xDD) ⊎ (b ≡ 0xFD) → isPrefix b ≡ true
+is-prefixed b (inl e) = rw e
+is-prefixed b (inr e) = rw e
+
+-- with no prefix in front the row is the page's
+pub page-row : (s : List ℕ) → isPrefix (first s) ≡ false → rowOf s ≡ pageRow (first s) (second s)
+unfolding rowOf
+page-row s e = let n = neither (eqb (first s) 0xDD) (eqb (first s) 0xFD) e in rw (n .0, n .1)
+
+-- the plain page has a row at every byte but CB, ED, DD and FD, and the CB page at every byte
+abbrev isGap : Row → Bool
+isGap gap = true
+isGap (row i x y z n t) = false
+
+plain-gaps : values (λ (b : ℕ). isGap (getD plain b gap)) 0 256 ≡ values (λ (b : ℕ). eqb b 0xCB || (eqb b 0xED || isPrefix b)) 0 256
+unfolding plain
+plain-gaps = refl
+
+cb-full : values (λ (b : ℕ). isGap (getD cb b gap)) 0 256 ≡ values (λ (b : ℕ). false) 0 256
+unfolding cb
+cb-full = refl
+
+-- two bytes of code: no row of CB or ED is shorter, and a gap needs four
+abbrev two : Row → Bool
+two x = ltb 1 (needed x)
+
+cb-two : T (every two cb)
+unfolding cb
+cb-two = tt
+
+ed-two : T (every two ed)
+unfolding ed
+ed-two = tt
+
+-- a byte without a row is an undefined ED code, if it is no prefix
+no-row : (b0 b1 : ℕ) → b0 < 256 → b1 < 256 → pageRow b0 b1 ≡ gap → isPrefix b0 ≡ false → (b0 ≡ 0xED) × (getD ed b1 gap ≡ gap)
+unfolding pageRow
+no-row b0 b1 h0 h1 e p = by-first (eqb b0 0xCB) (eqb b0 0xED) refl refl e
+  where
+    by-first : (c d : Bool) → eqb b0 0xCB ≡ c → eqb b0 0xED ≡ d → cond c (getD cb b1 gap) (cond d (getD ed b1 gap) (getD plain b0 gap)) ≡ gap → (b0 ≡ 0xED) × (getD ed b1 gap ≡ gap)
+    by-first true d q q′ g = absurd (true≢false (ap isGap (sym g) ∙ agree (λ (b : ℕ). isGap (getD cb b gap)) (λ (b : ℕ). false) true 256 cb-full b1 h1))
+    by-first false true q q′ g = (eqb-true b0 0xED q′, g)
+    by-first false false q q′ g =
+        absurd (true≢false (ap isGap (sym g) ∙ agree (λ (b : ℕ). isGap (getD plain b gap)) (λ (b : ℕ). eqb b 0xCB || (eqb b 0xED || isPrefix b)) true 256 plain-gaps b0 h0 ∙ rw (q, q′, p)))
+
+gap-or-cut : (x : Row) (n : ℕ) → n < needed x → (x ≡ gap) ⊎ (n < lengthOf x)
+gap-or-cut gap n h = inl refl
+gap-or-cut (row i x y z m t) n h = inr h
+
+cut-needed : (x : Row) (n : ℕ) → n < lengthOf x → n < needed x
+cut-needed gap n h = absurd (omega arith)
+cut-needed (row i x y z m t) n h = h
+
+module _ (s : List ℕ) (bytes : Bytes s) (some : 1 ≤ length s) (few : length s ≤ 3) where
+  too-few : length s < neededOf s → Prefixed s ⊎ (Undefined s ⊎ (Alone s ⊎ Cut s))
+  too-few = by-prefix (isPrefix (first s)) refl
+    where
+      undefined-or-alone : (first s ≡ 0xED) × (getD ed (second s) gap ≡ gap) → Undefined s ⊎ (Alone s ⊎ Cut s)
+      undefined-or-alone g = by-count (ltb 1 (length s)) refl
+        where
+          by-count : (b : Bool) → ltb 1 (length s) ≡ b → Undefined s ⊎ (Alone s ⊎ Cut s)
+          by-count true q = inl (ltb-true 1 (length s) q, g .0, g .1)
+          by-count false q = inr (inl (omega (arith, ltb-false 1 (length s) q), inr (g .0)))
+
+      by-prefix : (b : Bool) → isPrefix (first s) ≡ b → length s < neededBehind b (rowOf s) → Prefixed s ⊎ (Undefined s ⊎ (Alone s ⊎ Cut s))
+      by-prefix true q h = inl (prefixed (first s) q)
+      by-prefix false q h =
+          ⊎-elim
+          (λ g. inr (undefined-or-alone (no-row (first s) (second s) (bytes 0) (bytes 1) (sym (page-row s q) ∙ g) q)))
+          (λ c. inr (inr (inr (subst (λ (x : Row). length s < lengthOf x) (page-row s q) c))))
+          (gap-or-cut (rowOf s) (length s) h)
+
+  page-needed : isPrefix (first s) ≡ false → neededOf s ≡ needed (pageRow (first s) (second s))
+  page-needed q = rw q (ap needed (page-row s q))
+
+  by-page : Undefined s ⊎ (Alone s ⊎ Cut s) → length s < needed (pageRow (first s) (second s))
+  unfolding pageRow
+  by-page (inl u) = rw (u .1, u .2) (omega arith)
+  by-page (inr (inl (one, inl e))) = rw (e, one) (ltb→lt 1 (needed (getD cb (second s) gap)) (at-code two cb cb-two tt (second s)))
+  by-page (inr (inl (one, inr e))) = rw (e, one) (ltb→lt 1 (needed (getD ed (second s) gap)) (at-code two ed ed-two tt (second s)))
+  by-page (inr (inr cut)) = cut-needed (pageRow (first s) (second s)) (length s) cut
+
+  is-few : Prefixed s ⊎ (Undefined s ⊎ (Alone s ⊎ Cut s)) → length s < neededOf s
+  is-few = by-prefix (isPrefix (first s)) refl
+    where
+      by-prefix : (b : Bool) → isPrefix (first s) ≡ b → Prefixed s ⊎ (Undefined s ⊎ (Alone s ⊎ Cut s)) → length s < neededOf s
+      by-prefix true q w = rw q (omega arith)
+      by-prefix false q (inl p) = absurd (true≢false (sym (is-prefixed (first s) p) ∙ q))
+      by-prefix false q (inr w) = rw (page-needed q) (by-page w)
+
+module _ (s : List ℕ) where
+  abbrev found : OpCode
+  found = recordOf (rowOf s) (operandBytes s) (four s)
+
+  abbrev none : Bool
+  none = eqb (length s) 0
+
+  abbrev over : Bool
+  over = ltb 4 (length s)
+
+  abbrev under : Bool
+  under = ltb (length s) (neededOf s)
+
+  by-tests : decodeOf s .answer ≡ verdict none over under found .answer
+  unfolding decodeOf
+  by-tests = refl
+
+  -- 1, Nothing: no bytes
+  pub nothing-exactly : (decodeOf s .answer ≡ Answer.Nothing) ↔ NothingWhen s
+  nothing-exactly = (
+    λ e. eqb-true (length s) 0 (tells-nothing found none over under (sym by-tests ∙ e)),
+    λ h. by-tests ∙ rw (eq-eqb (length s) 0 h),
+  )
+
+  -- 3, Long: over four bytes
+  pub long-exactly : (decodeOf s .answer ≡ Answer.Long) ↔ LongWhen s
+  long-exactly = (
+    λ e. ltb-true 4 (length s) (tells-long found none over under (sym by-tests ∙ e)),
+    λ h. by-tests ∙ rw (ne-eqb (length s) 0 (λ e. omega arith), lt-ltb 4 (length s) h),
+  )
+
+  -- 2, Short: one to three bytes that decide no row
+  pub short-exactly : Bytes s → (decodeOf s .answer ≡ Answer.Short) ↔ ShortWhen s
+  short-exactly bytes = (to, from)
+    where
+      to : decodeOf s .answer ≡ Answer.Short → ShortWhen s
+      to e =
+          let f = tells-short found none over under (sym by-tests ∙ e) in
+          let n = eqb-false (length s) 0 (f .0) in
+          let less = ltb-true (length s) (neededOf s) (f .2) in
+          let some : 1 ≤ length s = omega arith in
+          let few : length s ≤ 3 = omega (arith, needed-at-most s) in
+          (some, few, too-few s bytes some few less)
+
+      from : ShortWhen s → decodeOf s .answer ≡ Answer.Short
+      from (some, few, why) =
+          by-tests
+          ∙ rw (ne-eqb (length s) 0 (λ e. omega arith), le-ltb 4 (length s) (omega arith), lt-ltb (length s) (neededOf s) (is-few s bytes some few why))
+
+  -- 0, Done: otherwise
+  pub done-exactly : Bytes s → (decodeOf s .answer ≡ Answer.Done) ↔ ((NothingWhen s → ⊥) × (ShortWhen s → ⊥) × (LongWhen s → ⊥))
+  done-exactly bytes = (to, from)
+    where
+      to : decodeOf s .answer ≡ Answer.Done → (NothingWhen s → ⊥) × (ShortWhen s → ⊥) × (LongWhen s → ⊥)
+      to e = (
+        λ w. omega (arith, ap numberOf (sym (nothing-exactly .1 w) ∙ e)),
+        λ w. omega (arith, ap numberOf (sym (short-exactly bytes .1 w) ∙ e)),
+        λ w. omega (arith, ap numberOf (sym (long-exactly .1 w) ∙ e)),
+      )
+
+      by-answer : (a : Answer) → decodeOf s .answer ≡ a → (NothingWhen s → ⊥) × (ShortWhen s → ⊥) × (LongWhen s → ⊥) → decodeOf s .answer ≡ Answer.Done
+      by-answer Answer.Done e w = e
+      by-answer Answer.Nothing e w = absurd (w .0 (nothing-exactly .0 e))
+      by-answer Answer.Short e w = absurd (w .1 (short-exactly bytes .0 e))
+      by-answer Answer.Long e w = absurd (w .2 (long-exactly .0 e))
+
+      from : (NothingWhen s → ⊥) × (ShortWhen s → ⊥) × (LongWhen s → ⊥) → decodeOf s .answer ≡ Answer.Done
+      from = by-answer (decodeOf s .answer) refl

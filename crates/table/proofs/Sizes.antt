@@ -1,0 +1,195 @@
+-- The sizes of a decoded record: its length, its machine cycles, its T-state places and its row time.
+-- Assumes nothing.
+use mathlib.Core.Path.{_≡_, refl, sym, ap, subst, _∙_}
+use mathlib.Core.Bool.{Bool, true, false, cond, _&&_, _||_}
+use mathlib.Core.List.{List, [], _∷_}
+use Prim.Native.Nat.{ℕ, zero, suc, _+_, _<_, _≤_}
+use native.Mathlib.Omega.{arith}
+use lib.Dec.{T, eqb, ltb, leb, leb→le, ltb→lt}
+use native.Mathlib.Nat.{le-of-suc-le-suc, le-trans}
+use lib.ListN.{length, getD, List·getD-eq-default}
+use Rattle.opcode.specs.declared.counts.TStates.{TStates}
+use Rattle.opcode.specs.declared.instruction.Instruction.{Instruction}
+use Rattle.opcode.specs.declared.record.OpCode.{OpCode}
+use Rattle.opcode.specs.Record.{zero as none-yet, six, sum, timeOf}
+use Rattle.table.specs.declared.Answer.{Answer}
+use Rattle.table.specs.declared.Decoded.{Decoded}
+use Rattle.table.specs.Row.{Index, ix, iy, Kind, none, Cycles, Row, row, gap, t1, states}
+use Rattle.table.specs.Departures.{oneFigure, ed-behind, neededBehind}
+use Rattle.table.specs.Plain.{plain}
+use Rattle.table.specs.Cb.{cb}
+use Rattle.table.specs.Ed.{ed}
+use Rattle.table.specs.Prefix.{prefixRow, ldIndexed, bitRow, behindRow}
+use Rattle.table.specs.Decode.{isPrefix, pageRow, rowOf, operandBytes, made, recordOf, four, neededOf, decodeOf}
+use Rattle.table.proofs.Pages.{both-left, both-right, every, at-code, chosen}
+use Rattle.table.proofs.Done.{Decides, decides, decided}
+
+-- each machine cycle has T-states
+abbrev filled : List ℕ → Bool
+filled [] = true
+filled (t ∷ ts) = ltb 0 t && filled ts
+
+abbrev pub total : List ℕ → ℕ
+total [] = 0
+total (t ∷ ts) = t + total ts
+
+abbrev timed : List ℕ → Bool
+timed ts = ltb 0 (length ts) && (leb (length ts) 6 && (filled ts && (leb 4 (total ts) && leb (total ts) 23)))
+
+-- length 1 to 4, one to six machine cycles, each with T-states, 4 to 23 in all
+abbrev sized : Row → Bool
+sized gap = true
+sized (row i x y z n t) = leb 1 n && (leb n 4 && timed (oneFigure t))
+
+plain-sized : T (every sized plain)
+unfolding plain
+plain-sized = tt
+
+cb-sized : T (every sized cb)
+unfolding cb
+cb-sized = tt
+
+ed-sized : T (every sized ed)
+unfolding ed
+ed-sized = tt
+
+behind-plain-sized : (i : Index) → T (every (λ (x : Row). sized (prefixRow i x)) plain)
+unfolding plain
+behind-plain-sized ix = tt
+behind-plain-sized iy = tt
+
+behind-ed-sized : (i : Index) → T (every (λ (x : Row). sized (prefixRow i (ed-behind x))) ed)
+unfolding ed
+behind-ed-sized ix = tt
+behind-ed-sized iy = tt
+
+bit-sized : (i : Index) (c : ℕ) (x : Row) → T (sized (bitRow i c x))
+bit-sized i c gap = tt
+bit-sized i c (row ins x y z n t) = chosen (λ (x : Row). T (sized x)) (ltb c 0x40) _ _ tt (chosen (λ (x : Row). T (sized x)) (ltb c 0x80) _ _ tt tt)
+
+abbrev Sized : Row → Type 0
+Sized x = T (sized x)
+
+behind-sized : (i : Index) (b1 b2 b3 : ℕ) → Sized (behindRow i b1 b2 b3)
+unfolding behindRow
+behind-sized i b1 b2 b3 =
+    chosen Sized (eqb b1 0xCB) _ _ (bit-sized i b3 (getD cb b3 gap))
+    (chosen Sized (eqb b1 0xEB) _ _ tt
+    (chosen Sized (eqb b1 0x36) _ _ tt
+    (chosen Sized (eqb b1 0xED) _ _
+    (at-code (λ (x : Row). sized (prefixRow i (ed-behind x))) ed (behind-ed-sized i) tt b2)
+    (at-code (λ (x : Row). sized (prefixRow i x)) plain (behind-plain-sized i) tt b1))))
+
+page-sized : (b0 b1 : ℕ) → Sized (pageRow b0 b1)
+unfolding pageRow
+page-sized b0 b1 =
+    chosen Sized (eqb b0 0xCB) _ _ (at-code sized cb cb-sized tt b1)
+    (chosen Sized (eqb b0 0xED) _ _ (at-code sized ed ed-sized tt b1) (at-code sized plain plain-sized tt b0))
+
+pub row-sized : (s : List ℕ) → Sized (rowOf s)
+unfolding rowOf
+row-sized s =
+    chosen Sized (eqb (getD s 0 0) 0xDD) _ _ (behind-sized ix (getD s 1 0) (getD s 2 0) (getD s 3 0))
+    (chosen Sized (eqb (getD s 0 0) 0xFD) _ _ (behind-sized iy (getD s 1 0) (getD s 2 0) (getD s 3 0)) (page-sized (getD s 0 0) (getD s 1 0)))
+
+-- what a decoded record of n given bytes keeps to
+pub record Keeps (n : ℕ) (o : OpCode) : Type 0 where
+  pub length-least : 1 ≤ o .length .0
+  pub length-most : o .length .0 ≤ 4
+  pub length-given : o .length .0 ≤ n
+  pub cycles-least : 1 ≤ o .mcycles .0
+  pub cycles-most : o .mcycles .0 ≤ 6
+  pub places : length (o .tstates) ≡ 6
+  pub first-filled : (k : ℕ) → k < o .mcycles .0 → 0 < getD (o .tstates) k none-yet .0
+  pub rest-zero : (k : ℕ) → o .mcycles .0 ≤ k → getD (o .tstates) k none-yet ≡ none-yet
+  pub time-least : 4 ≤ timeOf o .0
+  pub time-most : timeOf o .0 ≤ 23
+
+length-states : (ts : List ℕ) → length (states ts) ≡ length ts
+length-states [] = refl
+length-states (t ∷ ts) = ap suc (length-states ts)
+
+state : (ts : List ℕ) (k : ℕ) → getD (states ts) k none-yet .0 ≡ getD ts k 0
+state [] k = refl
+state (t ∷ ts) zero = refl
+state (t ∷ ts) (suc k) = state ts k
+
+place : (l : List TStates) → length l ≤ 6 → (k : ℕ) → getD (six l) k none-yet ≡ getD l k none-yet
+place l h zero = refl
+place l h (suc zero) = refl
+place l h (suc (suc zero)) = refl
+place l h (suc (suc (suc zero))) = refl
+place l h (suc (suc (suc (suc zero)))) = refl
+place l h (suc (suc (suc (suc (suc zero))))) = refl
+place l h (suc (suc (suc (suc (suc (suc k)))))) = sym (List·getD-eq-default l none-yet (omega arith))
+
+fill : (ts : List ℕ) → T (filled ts) → (k : ℕ) → k < length ts → 0 < getD ts k 0
+fill [] f k h = absurd (omega arith)
+fill (t ∷ ts) f zero h = ltb→lt 0 t (both-left (ltb 0 t) (filled ts) f)
+fill (t ∷ ts) f (suc k) h = fill ts (both-right (ltb 0 t) (filled ts) f) k (le-of-suc-le-suc h)
+
+added : (ts : List ℕ) → length ts ≤ 6 → sum (six (states ts)) ≡ total ts
+unfolding sum
+added [] h = refl
+added (a ∷ []) h = refl
+added (a ∷ b ∷ []) h = refl
+added (a ∷ b ∷ c ∷ []) h = refl
+added (a ∷ b ∷ c ∷ d ∷ []) h = refl
+added (a ∷ b ∷ c ∷ d ∷ e ∷ []) h = refl
+added (a ∷ b ∷ c ∷ d ∷ e ∷ f ∷ []) h = refl
+added (a ∷ b ∷ c ∷ d ∷ e ∷ f ∷ g ∷ ts) h = absurd (omega arith)
+
+made-keeps : (ins : Instruction) (x y z : Kind) (n : ℕ) (t : Cycles) (s d : List ℕ) (g : ℕ) → Sized (row ins x y z n t) → n ≤ g → Keeps g (made ins x y z n t s d)
+made-keeps ins x y z n t s d g w h =
+    let ts = oneFigure t in
+    let w1 : T (leb n 4 && timed ts) = both-right (leb 1 n) (leb n 4 && timed ts) w in
+    let w2 : T (timed ts) = both-right (leb n 4) (timed ts) w1 in
+    let w3 = both-right (ltb 0 (length ts)) _ w2 in
+    let w4 = both-right (leb (length ts) 6) _ w3 in
+    let w5 = both-right (filled ts) _ w4 in
+    let some : 0 < length ts = ltb→lt 0 (length ts) (both-left (ltb 0 (length ts)) _ w2) in
+    let six-most : length ts ≤ 6 = leb→le (length ts) 6 (both-left (leb (length ts) 6) _ w3) in
+    let room : length (states ts) ≤ 6 = rw (length-states ts) six-most in
+    record {
+      length-least = leb→le 1 n (both-left (leb 1 n) (leb n 4 && timed ts) w);
+      length-most = leb→le n 4 (both-left (leb n 4) (timed ts) w1);
+      length-given = h;
+      cycles-least = some;
+      cycles-most = six-most;
+      places = refl;
+      first-filled = λ k q. subst (λ (m : ℕ). 0 < m) (sym (ap (λ (u : TStates). u .0) (place (states ts) room k) ∙ state ts k)) (fill ts (both-left (filled ts) _ w4) k q);
+      rest-zero = λ k q. place (states ts) room k ∙ List·getD-eq-default (states ts) none-yet (rw (length-states ts) q);
+      time-least = rw (added ts six-most) (leb→le 4 (total ts) (both-left (leb 4 (total ts)) _ w5));
+      time-most = rw (added ts six-most) (leb→le (total ts) 23 (both-right (leb 4 (total ts)) _ w5));
+    }
+
+record-keeps : (x : Row) → Sized x → (s d : List ℕ) (g : ℕ) → recordOf x s d .length .0 ≤ g → Keeps g (recordOf x s d)
+record-keeps gap w s d g h = made-keeps Instruction.NOP none none none 1 (t1 4) s d g tt h
+record-keeps (row ins x y z n t) w s d g h = made-keeps ins x y z n t s d g w h
+
+-- a row is no longer than the bytes that decide it
+no-longer : (b : Bool) (x : Row) → Sized x → (s d : List ℕ) → recordOf x s d .length .0 ≤ neededBehind b x
+no-longer true gap w s d = omega arith
+no-longer false gap w s d = omega arith
+no-longer true (row ins x y z n t) w s d = leb→le n 4 (both-left (leb n 4) (timed (oneFigure t)) (both-right (leb 1 n) (leb n 4 && timed (oneFigure t)) w))
+no-longer false (row ins x y z n t) w s d = omega arith
+
+pub sizes : (s : List ℕ) → decodeOf s .answer ≡ Answer.Done → Keeps (length s) (decodeOf s .rec)
+sizes s e =
+    let w = decides s e in
+    let x = rowOf s in
+    subst (λ (o : OpCode). Keeps (length s) o) (sym (ap (λ (u : Decoded). u .rec) (w .made)))
+    (record-keeps x (row-sized s) (operandBytes s) (four s) (length s)
+    (le-trans (no-longer (isPrefix (getD s 0 0)) x (row-sized s) (operandBytes s) (four s)) (w .enough)))
+
+needed-most : (b : Bool) (x : Row) → Sized x → neededBehind b x ≤ 4
+needed-most true x w = omega arith
+needed-most false gap w = omega arith
+needed-most false (row ins x y z n t) w = leb→le n 4 (both-left (leb n 4) (timed (oneFigure t)) (both-right (leb 1 n) (leb n 4 && timed (oneFigure t)) w))
+
+pub needed-at-most : (s : List ℕ) → neededOf s ≤ 4
+needed-at-most s = needed-most (isPrefix (getD s 0 0)) (rowOf s) (row-sized s)
+
+-- four bytes are never refused
+pub four-decide : (s : List ℕ) → length s ≡ 4 → decodeOf s .answer ≡ Answer.Done
+four-decide s e = ap (λ (u : Decoded). u .answer) (decided s (omega arith) (omega arith) (le-trans (needed-at-most s) (omega arith)))

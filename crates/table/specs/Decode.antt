@@ -1,0 +1,87 @@
+-- From bytes to answer and record. Definitions only.
+use Prim.Native.Nat.{ℕ}
+use mathlib.Core.Bool.{Bool, cond, _||_}
+use mathlib.Core.List.{List, [], _∷_}
+use lib.Dec.{eqb, ltb}
+use lib.ListN.{length, drop, getD}
+use Rattle.opcode.specs.declared.instruction.Instruction.{Instruction}
+use Rattle.opcode.specs.declared.record.OpCode.{OpCode}
+use Rattle.opcode.specs.Record.{six, emptyOf}
+use Rattle.table.specs.declared.Answer.{Answer}
+use Rattle.table.specs.declared.Decoded.{Decoded}
+use Rattle.table.specs.Row.{ix, iy, Kind, none, Cycles, Row, row, gap, t1, read, states}
+use Rattle.table.specs.Departures.{oneFigure, neededBehind}
+use Rattle.table.specs.Plain.{plain}
+use Rattle.table.specs.Cb.{cb}
+use Rattle.table.specs.Ed.{ed}
+use Rattle.table.specs.Prefix.{behindRow}
+
+-- the paper's number of each answer
+abbrev pub numberOf : Answer → ℕ
+numberOf Answer.Done = 0
+numberOf Answer.Nothing = 1
+numberOf Answer.Short = 2
+numberOf Answer.Long = 3
+
+-- the first byte is DD or FD
+abbrev pub isPrefix : ℕ → Bool
+isPrefix b = eqb b 0xDD || eqb b 0xFD
+
+-- the row with no DD or FD in front: behind CB and ED the second byte is the code
+unfoldable pub pageRow : ℕ → ℕ → Row
+pageRow b0 b1 =
+    cond (eqb b0 0xCB) (getD cb b1 gap)
+    (cond (eqb b0 0xED) (getD ed b1 gap)
+    (getD plain b0 gap))
+
+-- the row of some bytes, and where no row takes them a gap
+unfoldable pub rowOf : List ℕ → Row
+rowOf s =
+    cond (eqb (getD s 0 0) 0xDD) (behindRow ix (getD s 1 0) (getD s 2 0) (getD s 3 0))
+    (cond (eqb (getD s 0 0) 0xFD) (behindRow iy (getD s 1 0) (getD s 2 0) (getD s 3 0))
+    (pageRow (getD s 0 0) (getD s 1 0)))
+
+-- the bytes behind the code: CB, ED, DD and FD have a second byte of code, and no row of DD ED reads any
+abbrev pub operandBytes : List ℕ → List ℕ
+operandBytes s = cond (isPrefix (getD s 0 0) || (eqb (getD s 0 0) 0xCB || eqb (getD s 0 0) 0xED)) (drop 2 s) (drop 1 s)
+
+-- six T-state places, the first m filled and the rest zero
+abbrev pub made : Instruction → Kind → Kind → Kind → ℕ → Cycles → List ℕ → List ℕ → OpCode
+made i x y z n t s d =
+    record {
+      length = record { 0 = n };
+      ins = i;
+      op1 = read x s;
+      op2 = read y s;
+      op3 = read z s;
+      «data» = d;
+      tstates = six (states (oneFigure t));
+      mcycles = record { 0 = length (oneFigure t) };
+    }
+
+-- the record of a row over the bytes s behind its code and the data d; four bytes that no row takes: length 1, NOP, [4]
+abbrev pub recordOf : Row → List ℕ → List ℕ → OpCode
+recordOf gap s d = made Instruction.NOP none none none 1 (t1 4) s d
+recordOf (row i x y z n t) s d = made i x y z n t s d
+
+-- the input padded with zeros to four
+abbrev pub four : List ℕ → List ℕ
+four s = getD s 0 0 ∷ getD s 1 0 ∷ getD s 2 0 ∷ getD s 3 0 ∷ []
+
+-- how many bytes decide the row of s
+abbrev pub neededOf : List ℕ → ℕ
+neededOf s = neededBehind (isPrefix (getD s 0 0)) (rowOf s)
+
+-- a refusal returns the empty record
+abbrev pub refused : Answer → Decoded
+refused a = record { answer = a; rec = emptyOf }
+
+abbrev pub done : OpCode → Decoded
+done r = record { answer = Answer.Done; rec = r }
+
+unfoldable pub decodeOf : List ℕ → Decoded
+decodeOf s =
+    cond (eqb (length s) 0) (refused Answer.Nothing)
+    (cond (ltb 4 (length s)) (refused Answer.Long)
+    (cond (ltb (length s) (neededOf s)) (refused Answer.Short)
+    (done (recordOf (rowOf s) (operandBytes s) (four s)))))

@@ -1,0 +1,9 @@
+pub mod Signed
+pub mod Row
+pub mod Families
+pub mod Departures
+pub mod Plain
+pub mod Cb
+pub mod Ed
+pub mod Prefix
+pub mod Decode

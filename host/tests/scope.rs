@@ -1,0 +1,82 @@
+//! The original's answers against document 01, worked out by hand.
+
+use host::answer::{answer, Answer};
+
+/// The row; its bytes; length and instruction, three operand places, data, T-states, machine cycles.
+const STARRED_DONE: &str = "\
+NOP                 | 00          | 01 23  00 00 00  00 00 00  00 00 00  00 00 00 00  04 00 00 00 00 00  01
+JR -126             | 18 80       | 02 1C  03 82 FF  00 00 00  00 00 00  18 80 00 00  04 03 05 00 00 00  03
+JR +129             | 18 7F       | 02 1C  03 81 00  00 00 00  00 00 00  18 7F 00 00  04 03 05 00 00 00  03
+DJNZ +0             | 10 FE       | 02 0F  03 00 00  00 00 00  00 00 00  10 FE 00 00  05 03 05 00 00 00  03
+BIT 00, (HL)        | CB 46       | 02 03  01 00 00  09 03 00  00 00 00  CB 46 00 00  04 04 04 00 00 00  03
+IN A, (C), ignored  | ED 70       | 02 15  07 00 00  0A 02 00  0C 00 00  ED 70 00 00  04 04 04 00 00 00  03
+LD (IX-128), 07     | DD 36 80 07 | 04 1D  06 80 00  01 07 00  00 00 00  DD 36 80 07  04 04 03 05 03 00  05
+LD H, (IX+5)        | DD 66 05 00 | 03 1D  07 05 00  06 05 00  00 00 00  DD 66 05 00  04 04 03 05 03 00  05
+INC IX              | DD 23 00 00 | 02 16  08 06 00  00 00 00  00 00 00  DD 23 00 00  06 04 00 00 00 00  02
+NOP, BC, 1234 kept  | DD 01 34 12 | 01 23  08 01 00  02 34 12  00 00 00  DD 01 34 12  04 03 03 00 00 00  03
+NOP, undefined ED   | ED 00 00 00 | 01 23  00 00 00  00 00 00  00 00 00  ED 00 00 00  04 00 00 00 00 00  01
+SET 00, (IY+127)    | FD CB 7F C6 | 04 3D  01 00 00  06 7F 01  00 00 00  FD CB 7F C6  04 04 03 05 04 03  06
+SBC IX, IX          | DD ED 62 00 | 03 3B  08 06 00  08 06 00  00 00 00  DD ED 62 00  04 04 04 04 03 00  05";
+
+fn bytes(text: &str) -> Vec<u8> {
+    let pairs = text.split_whitespace();
+    pairs
+        .map(|pair| u8::from_str_radix(pair, 16).unwrap())
+        .collect()
+}
+
+#[test]
+fn starred_rows() {
+    for row in STARRED_DONE.lines() {
+        let fields: Vec<&str> = row.split('|').collect();
+        let record = bytes(fields[2]).try_into().unwrap();
+        assert_eq!(answer(&bytes(fields[1])), Answer::Done(record), "{row}");
+    }
+    assert_eq!(answer(&[0xDD, 0x23, 0x00]), Answer::Short);
+    assert_eq!(answer(&[0xED, 0x00, 0x00]), Answer::Short);
+    assert_eq!(answer(&[0; 5]), Answer::Long);
+}
+
+/// The bytes that document 01 asks for before a row is decided.
+fn needed(first: u8, second: u8) -> usize {
+    match first {
+        0xDD | 0xFD => 4,
+        0xED if ed_row_of_two(second) => 2,
+        0xED => 4,
+        // CB; DJNZ and JR; OUT and IN with (n); LD r,n; arithmetic with n
+        0xCB | 0x10 | 0x18 | 0x20 | 0x28 | 0x30 | 0x38 | 0xD3 | 0xDB => 2,
+        _ if matches!(first & 0xC7, 0x06 | 0xC6) => 2,
+        // LD dd,nn; HL and A with (nn); JP and CALL, with and without condition
+        0x01 | 0x11 | 0x21 | 0x31 | 0x22 | 0x2A | 0x32 | 0x3A | 0xC3 | 0xCD => 3,
+        _ if matches!(first & 0xC7, 0xC2 | 0xC4) => 3,
+        _ => 1,
+    }
+}
+
+/// The defined ED codes apart from a register pair with (nn), which takes four bytes.
+fn ed_row_of_two(code: u8) -> bool {
+    match code {
+        0x77 | 0x7F => false,
+        0x40..=0x7F => code & 0x07 != 0x03,
+        0xA0..=0xBF => code & 0x07 < 0x04,
+        _ => false,
+    }
+}
+
+#[test]
+fn short_exactly_below_the_bytes_needed() {
+    for first in 0..=0xFF {
+        for second in 0..=0xFF {
+            for (length, rest) in [(1, 0x00), (2, 0x00), (3, 0x00), (3, 0xFF), (4, 0xFF)] {
+                let ins = &[first, second, rest, rest][..length];
+                let short = length < needed(first, second);
+                assert_eq!(answer(ins) == Answer::Short, short, "{ins:02X?}");
+            }
+        }
+    }
+}
+
+#[test]
+fn nothing_for_no_bytes() {
+    assert_eq!(answer(&[]), Answer::Nothing);
+}
