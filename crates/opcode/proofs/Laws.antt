@@ -6,24 +6,14 @@ use native.Mathlib.Omega.{arith}
 use lib.ListN.{length, take, drop, getD, length-map, length-take, drop-of-length-le, List·getD-append, List·getD-eq-default}
 use lib.Seq.{getD-take, getD-drop, getD-append-add, length-take-le, take-all}
 use native.Mathlib.Nat.{min-le-left}
-use mir.Val.{Val}
-use denote.Laws.{Is}
-use denote.Struct.Laws as LL
-use Rattle.opcode.proofs.record.OpCode as T
-use Rattle.opcode.proofs.record.OpCode.Laws as T′
-use borrow.Author.Tests.{le-ltb}
+use borrow.Author.Tests.{le-leb, leb-true, ltb-true}
+use lib.Dec.{leb, ltb}
+use mathlib.Core.Bool.{Bool, true, false, _&&_, false≢true}
 use Rattle.opcode.specs.declared.counts.TStates.{TStates}
 use Rattle.opcode.specs.declared.timing.Timing.{Timing}
 use Rattle.opcode.specs.declared.record.OpCode.{OpCode}
 use Rattle.opcode.specs.Record.{zero, sum}
-use Rattle.opcode.specs.Timing.{inserted, removed, insertOf, extendOf, listed}
-
--- the lengths of a record's arrays, from what a function that takes the record r is told: `six-places (c .args .r) _ (c .good .0)`, with `.good .1 .0` for a second parameter
-pub six-places : (r : OpCode) (vs : List Val) → Is T.the-row r vs → length (r .tstates) ≡ 6
-six-places r vs is = sym (length-map (r .tstates) _) ∙ LL.owed T.the-type T′.the-laws r vs is .1 .1 .1 .1 .1 .1 .0 .1 .0 .1
-
-pub four-bytes : (r : OpCode) (vs : List Val) → Is T.the-row r vs → length (r .«data») ≡ 4
-four-bytes r vs is = sym (length-map (r .«data») _) ∙ LL.owed T.the-type T′.the-laws r vs is .1 .1 .1 .1 .1 .0 .1 .0 .1
+use Rattle.opcode.specs.Timing.{inserted, removed, mayInsert, mayExtend, mayRemove, insertOf, extendOf, listed}
 
 -- past the first of two lists
 pub past : (xs ys : List TStates) (k : ℕ) → length xs ≤ k → getD (xs ++ ys) k zero ≡ getD ys (k - length xs) zero
@@ -75,8 +65,26 @@ ins-end m t s =
     rw (take-all m (take m t) h, drop-of-length-le (take m t) h, append-nil)
 
 pub extended : (r : OpCode) (x : Timing) → insertOf r (r .mcycles .0) x ≡ extendOf r x
-unfolding insertOf extendOf
-extended r x = rw (le-ltb (r .mcycles .0) (r .mcycles .0) (omega arith), ins-end (r .mcycles .0) (r .tstates) (listed x))
+unfolding insertOf extendOf mayInsert mayExtend
+extended r x = rw (le-leb (r .mcycles .0) (r .mcycles .0) (omega arith), ins-end (r .mcycles .0) (r .tstates) (listed x))
+
+-- what the tests of an insertion and a removal say
+both : (a b : Bool) → (a && b) ≡ true → (a ≡ true) × (b ≡ true)
+both true b e = (refl, e)
+both false b e = absurd (false≢true e)
+
+pub room : (m pos n : ℕ) → mayInsert m pos n ≡ true → (m ≤ 6) × (pos ≤ m) × (m + n ≤ 6)
+unfolding mayInsert
+room m pos n e =
+    let f = both (leb m 6) (leb pos m && leb n (6 - m)) e in
+    let g = both (leb pos m) (leb n (6 - m)) (f .1) in
+    let most = leb-true m 6 (f .0) in
+    let fits = leb-true n (6 - m) (g .1) in
+    (most, leb-true pos m (g .0), omega arith)
+
+pub one-filled : (m pos : ℕ) → mayRemove m pos ≡ true → (m ≤ 6) × (pos < m)
+unfolding mayRemove
+one-filled m pos e = let f = both (leb m 6) (ltb pos m) e in (leb-true m 6 (f .0), ltb-true pos m (f .1))
 
 -- six places, added one by one
 pub sum-six : (l : List TStates) → length l ≡ 6 → getD l 0 zero .0 + getD l 1 zero .0 + getD l 2 zero .0 + getD l 3 zero .0 + getD l 4 zero .0 + getD l 5 zero .0 ≡ sum l

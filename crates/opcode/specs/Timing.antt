@@ -2,7 +2,7 @@
 -- An edit that is done leaves zeros behind the filled places, whatever stood there in a record made by hand; one that is refused leaves the record as it came.
 use Prim.Native.Nat.{ℕ, _+_, _-_, _≤_}
 use mathlib.Core.Path.{_≡_}
-use mathlib.Core.Bool.{Bool, true, false}
+use mathlib.Core.Bool.{Bool, true, false, cond, _&&_}
 use mathlib.Core.List.{List, [], _∷_, _++_}
 use lib.Dec.{ltb, leb}
 use lib.ListN.{take, drop}
@@ -52,34 +52,30 @@ timed r l n =
 abbrev pub yes : OpCode → List TStates → ℕ → Edited
 yes r l n = record { ok = true; rec = timed r l n }
 
-abbrev pub pickE : Bool → Edited → Edited → Edited
-pickE true a b = a
-pickE false a b = b
+-- at most six places are filled, pos is at most their count m, and there is room for n more
+unfoldable pub mayInsert : ℕ → ℕ → ℕ → Bool
+mayInsert m pos n = leb m 6 && (leb pos m && leb n (6 - m))
 
--- refused where m is over 6, pos is over m, or there is no room, as always where the other count is over 6
 unfoldable pub insertOf : OpCode → ℕ → Timing → Edited
 insertOf r pos x =
-    pickE (ltb 6 (r .mcycles .0)) (no r)
-    (pickE (ltb (r .mcycles .0) pos) (no r)
-    (pickE (ltb (6 - r .mcycles .0) (x .mcycles .0)) (no r)
-    (yes r (inserted (filled r) pos (listed x)) (r .mcycles .0 + x .mcycles .0))))
+    cond (mayInsert (r .mcycles .0) pos (x .mcycles .0))
+    (yes r (inserted (filled r) pos (listed x)) (r .mcycles .0 + x .mcycles .0))
+    (no r)
 
--- refused where m is over 6, or there is no room
+-- at most six places are filled, and there is room for n more
+unfoldable pub mayExtend : ℕ → ℕ → Bool
+mayExtend m n = leb m 6 && leb n (6 - m)
+
 unfoldable pub extendOf : OpCode → Timing → Edited
 extendOf r x =
-    pickE (ltb 6 (r .mcycles .0)) (no r)
-    (pickE (ltb (6 - r .mcycles .0) (x .mcycles .0)) (no r)
-    (yes r (filled r ++ listed x) (r .mcycles .0 + x .mcycles .0)))
+    cond (mayExtend (r .mcycles .0) (x .mcycles .0)) (yes r (filled r ++ listed x) (r .mcycles .0 + x .mcycles .0)) (no r)
 
 unfoldable pub pushOf : OpCode → TStates → Edited
-pushOf r t =
-    pickE (ltb 6 (r .mcycles .0)) (no r)
-    (pickE (ltb (6 - r .mcycles .0) 1) (no r)
-    (yes r (filled r ++ t ∷ []) (r .mcycles .0 + 1)))
+pushOf r t = cond (mayExtend (r .mcycles .0) 1) (yes r (filled r ++ t ∷ []) (r .mcycles .0 + 1)) (no r)
 
--- refused where m is over 6, or pos is no filled place
+-- at most six places are filled, and pos is one of them
+unfoldable pub mayRemove : ℕ → ℕ → Bool
+mayRemove m pos = leb m 6 && ltb pos m
+
 unfoldable pub removeOf : OpCode → ℕ → Edited
-removeOf r pos =
-    pickE (ltb 6 (r .mcycles .0)) (no r)
-    (pickE (leb (r .mcycles .0) pos) (no r)
-    (yes r (removed (filled r) pos) (r .mcycles .0 - 1)))
+removeOf r pos = cond (mayRemove (r .mcycles .0) pos) (yes r (removed (filled r) pos) (r .mcycles .0 - 1)) (no r)

@@ -1,6 +1,6 @@
 // The record of a decoded row.
 ghost use mathlib.Core.Path.{_≡_};
-ghost use Rattle.opcode.specs.Record.{emptyOf, timeOf};
+ghost use Rattle.opcode.specs.Record.{emptyOf, sum, timeOf};
 use super::counts::Bytes;
 use super::counts::MCycles;
 use super::counts::RowTime;
@@ -51,14 +51,19 @@ impl OpCode {
         ensures { λ t. ⌜ t ≡ timeOf self ⌝ }
     {
         let t = self.tstates;
-        let a = t[0];
-        let b = t[1];
-        let c = t[2];
-        let d = t[3];
-        let e = t[4];
-        let f = t[5];
-        RowTime(
-            (a.0 as u16) + (b.0 as u16) + (c.0 as u16) + (d.0 as u16) + (e.0 as u16) + (f.0 as u16),
-        )
+        RowTime(total(t))
     }
+}
+
+// The sum of six T-state places.
+fn total(t: [TStates; 6]) -> u16
+    ensures { λ r. ⌜ r ≡ sum t ⌝ }
+{
+    let a = t[0];
+    let b = t[1];
+    let c = t[2];
+    let d = t[3];
+    let e = t[4];
+    let f = t[5];
+    (a.0 as u16) + (b.0 as u16) + (c.0 as u16) + (d.0 as u16) + (e.0 as u16) + (f.0 as u16)
 }

@@ -3,8 +3,8 @@
 ghost use mathlib.Core.Path.{_≡_};
 ghost use Prim.Native.Nat.{_+_, _≤_, _<_};
 ghost use lib.ListN.{take, getD};
-ghost use Rattle.opcode.specs.Record.{zero};
-ghost use Rattle.opcode.specs.Timing.{inserted, removed, insertOf, extendOf, pushOf, removeOf};
+ghost use Rattle.opcode.specs.Record.{zero, six};
+ghost use Rattle.opcode.specs.Timing.{inserted, removed, mayInsert, mayRemove, insertOf, extendOf, pushOf, removeOf};
 use super::counts::MCycles;
 use super::counts::TStates;
 use super::record::OpCode;
@@ -45,6 +45,21 @@ fn inserted_at(
     TStates(0)
 }
 
+// All six places once the first n of s are put in.
+fn with_inserted(t: [TStates; 6], m: usize, pos: usize, s: [TStates; 6], n: usize) -> [TStates; 6]
+    requires { ⌜ (pos ≤ m) × (m + n ≤ 6) ⌝ }
+    ensures { λ r. ⌜ r ≡ six (inserted (take m t) pos (take n s)) ⌝ }
+{
+    [
+        inserted_at(t, m, pos, s, n, 0),
+        inserted_at(t, m, pos, s, n, 1),
+        inserted_at(t, m, pos, s, n, 2),
+        inserted_at(t, m, pos, s, n, 3),
+        inserted_at(t, m, pos, s, n, 4),
+        inserted_at(t, m, pos, s, n, 5),
+    ]
+}
+
 // Place k once place pos of the first m of t is taken out.
 fn removed_at(t: [TStates; 6], m: usize, pos: usize, k: usize) -> TStates
     requires { ⌜ (pos < m) × (m ≤ 6) × (k < 6) ⌝ }
@@ -59,6 +74,44 @@ fn removed_at(t: [TStates; 6], m: usize, pos: usize, k: usize) -> TStates
     TStates(0)
 }
 
+// All six places once place pos is taken out.
+fn with_removed(t: [TStates; 6], m: usize, pos: usize) -> [TStates; 6]
+    requires { ⌜ (pos < m) × (m ≤ 6) ⌝ }
+    ensures { λ r. ⌜ r ≡ six (removed (take m t) pos) ⌝ }
+{
+    [
+        removed_at(t, m, pos, 0),
+        removed_at(t, m, pos, 1),
+        removed_at(t, m, pos, 2),
+        removed_at(t, m, pos, 3),
+        removed_at(t, m, pos, 4),
+        removed_at(t, m, pos, 5),
+    ]
+}
+
+// May n places be put in before place pos of m filled ones?
+fn may_insert(m: usize, pos: usize, n: usize) -> bool
+    ensures { λ r. ⌜ r ≡ mayInsert m pos n ⌝ }
+{
+    if 6 < m {
+        return false;
+    }
+    if m < pos {
+        return false;
+    }
+    n <= 6 - m
+}
+
+// May place pos of m filled ones be taken out?
+fn may_remove(m: usize, pos: usize) -> bool
+    ensures { λ r. ⌜ r ≡ mayRemove m pos ⌝ }
+{
+    if 6 < m {
+        return false;
+    }
+    pos < m
+}
+
 impl OpCode {
     // The record with `more` put in before place pos, from 0 to the count.
     pub fn tstates_insert(self, pos: usize, more: Timing) -> Edited
@@ -68,19 +121,7 @@ impl OpCode {
         let d = more.mcycles;
         let m = c.0 as usize;
         let n = d.0 as usize;
-        if 6 < m {
-            return Edited {
-                ok: false,
-                rec: self,
-            };
-        }
-        if m < pos {
-            return Edited {
-                ok: false,
-                rec: self,
-            };
-        }
-        if 6 - m < n {
+        if !may_insert(m, pos, n) {
             return Edited {
                 ok: false,
                 rec: self,
@@ -88,14 +129,7 @@ impl OpCode {
         }
         let t = self.tstates;
         let s = more.tstates;
-        let u = [
-            inserted_at(t, m, pos, s, n, 0),
-            inserted_at(t, m, pos, s, n, 1),
-            inserted_at(t, m, pos, s, n, 2),
-            inserted_at(t, m, pos, s, n, 3),
-            inserted_at(t, m, pos, s, n, 4),
-            inserted_at(t, m, pos, s, n, 5),
-        ];
+        let u = with_inserted(t, m, pos, s, n);
         let e = MCycles((m + n) as u8);
         let mut next = self;
         next.tstates = u;
@@ -133,27 +167,14 @@ impl OpCode {
     {
         let c = self.mcycles;
         let m = c.0 as usize;
-        if 6 < m {
-            return Edited {
-                ok: false,
-                rec: self,
-            };
-        }
-        if m <= pos {
+        if !may_remove(m, pos) {
             return Edited {
                 ok: false,
                 rec: self,
             };
         }
         let t = self.tstates;
-        let u = [
-            removed_at(t, m, pos, 0),
-            removed_at(t, m, pos, 1),
-            removed_at(t, m, pos, 2),
-            removed_at(t, m, pos, 3),
-            removed_at(t, m, pos, 4),
-            removed_at(t, m, pos, 5),
-        ];
+        let u = with_removed(t, m, pos);
         let e = MCycles((m - 1) as u8);
         let mut next = self;
         next.tstates = u;

@@ -56,7 +56,7 @@ read-same at-word u v e = rw (e 0 (omega arith), e 1 (omega arith))
 read-same at-port u v e = rw (e 0 (omega arith))
 read-same rel u v e = rw (e 0 (omega arith))
 read-same (at-index i) u v e = rw (e 0 (omega arith))
-read-same byte-behind u v e = rw (e 1 (omega arith))
+read-same byte-behind u v e = simp (e 0 (omega arith), e 1 (omega arith))
 
 -- a row whose code has c bytes reads no byte past its length
 abbrev inside : ℕ → Row → Bool

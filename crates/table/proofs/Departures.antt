@@ -19,20 +19,20 @@ use Rattle.table.proofs.Sizes.{total}
 abbrev pub Shows : Row → Type 0
 Shows gap = Unit {0}
 Shows (row i x y z n (always ts)) = Unit {0}
-Shows (row i x y z n (conditional met unmet)) = total unmet < total met
-Shows (row i x y z n (repeating last again)) = total again ≡ total last + 5
+Shows (row i x y z n (conditional met unmet)) = total unmet < total (oneFigure (conditional met unmet))
+Shows (row i x y z n (repeating last again)) = total again ≡ total (oneFigure (repeating last again)) + 5
 
 abbrev shows : Row → Bool
 shows gap = true
 shows (row i x y z n (always ts)) = true
-shows (row i x y z n (conditional met unmet)) = ltb (total unmet) (total met)
-shows (row i x y z n (repeating last again)) = eqb (total again) (total last + 5)
+shows (row i x y z n (conditional met unmet)) = ltb (total unmet) (total (oneFigure (conditional met unmet)))
+shows (row i x y z n (repeating last again)) = eqb (total again) (total (oneFigure (repeating last again)) + 5)
 
 shown : (x : Row) → T (shows x) → Shows x
 shown gap w = tt
 shown (row i x y z n (always ts)) w = tt
-shown (row i x y z n (conditional met unmet)) w = ltb→lt (total unmet) (total met) w
-shown (row i x y z n (repeating last again)) w = eqb→eq (total again) (total last + 5) w
+shown (row i x y z n (conditional met unmet)) w = ltb→lt (total unmet) (total (oneFigure (conditional met unmet))) w
+shown (row i x y z n (repeating last again)) w = eqb→eq (total again) (total (oneFigure (repeating last again)) + 5) w
 
 plain-shows : T (every shows plain)
 unfolding plain

@@ -16,7 +16,7 @@ use Rattle.opcode.specs.declared.instruction.Instruction.{Instruction}
 use Rattle.opcode.specs.declared.record.OpCode.{OpCode}
 use Rattle.opcode.specs.declared.timing.Timing.{Timing}
 use Rattle.opcode.specs.Record.{six, emptyOf}
-use Rattle.opcode.specs.Timing.{insertOf, removeOf, inserted, removed}
+use Rattle.opcode.specs.Timing.{inserted, removed, mayInsert, mayRemove, insertOf, removeOf}
 use Rattle.table.specs.declared.Answer.{Answer}
 use Rattle.table.specs.declared.Decoded.{Decoded}
 use Rattle.table.specs.Row.{Index, ix, iy, Row, row, gap, indexOf, states}
@@ -222,7 +222,7 @@ module _ (b2 b3 : ℕ) (d : List ℕ) where
   restEd x = cond (ltb 3 (needed x)) (refused Answer.Short) (done (recordOf x (b3 ∷ []) d))
 
   ed-lines : (i : Index) → map (λ (x : Row). behind (restEd x) i 0xED b2 b3 d) ed ≡ map (λ (x : Row). recordOf (prefixRow i (ed-behind x)) (b2 ∷ b3 ∷ []) d) ed
-  unfolding ed insertOf removeOf inserted removed
+  unfolding ed mayInsert mayRemove insertOf removeOf inserted removed
   ed-lines ix = refl
   ed-lines iy = refl
 
@@ -230,12 +230,12 @@ module _ (b2 b3 : ℕ) (d : List ℕ) where
   plain-lines :
       (i : Index) → values (λ (b1 : ℕ). cond (eqb b1 0xED) emptyOf (behind (rest b1) i b1 b2 b3 d)) 0 256
       ≡ values (λ (b1 : ℕ). cond (eqb b1 0xED) emptyOf (recordOf (behindRow i b1 b2 b3) (b2 ∷ b3 ∷ []) d)) 0 256
-  unfolding plain step pageRow behindRow insertOf removeOf inserted removed
+  unfolding plain step pageRow behindRow mayInsert mayRemove insertOf removeOf inserted removed
   plain-lines ix = refl
   plain-lines iy = refl
 
   ed-agrees : (i : Index) → behind (restEd (getD ed b2 gap)) i 0xED b2 b3 d ≡ recordOf (prefixRow i (ed-behind (getD ed b2 gap))) (b2 ∷ b3 ∷ []) d
-  unfolding insertOf inserted
+  unfolding mayInsert insertOf inserted
   ed-agrees i =
       sym (List·getD-map (λ (x : Row). behind (restEd x) i 0xED b2 b3 d) ed b2 gap)
       ∙ ap (λ (l : List OpCode). getD l b2 (recordOf gap (b2 ∷ b3 ∷ []) d)) (ed-lines i)

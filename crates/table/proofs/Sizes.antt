@@ -15,7 +15,7 @@ use Rattle.opcode.specs.Record.{zero as none-yet, six, sum, timeOf}
 use Rattle.table.specs.declared.Answer.{Answer}
 use Rattle.table.specs.declared.Decoded.{Decoded}
 use Rattle.table.specs.Row.{Index, ix, iy, Kind, none, Cycles, Row, row, gap, t1, states}
-use Rattle.table.specs.Departures.{oneFigure, ed-behind, neededBehind}
+use Rattle.table.specs.Departures.{oneFigure, ed-behind, needed, neededBehind}
 use Rattle.table.specs.Plain.{plain}
 use Rattle.table.specs.Cb.{cb}
 use Rattle.table.specs.Ed.{ed}
@@ -167,12 +167,25 @@ record-keeps : (x : Row) → Sized x → (s d : List ℕ) (g : ℕ) → recordOf
 record-keeps gap w s d g h = made-keeps Instruction.NOP none none none 1 (t1 4) s d g tt h
 record-keeps (row ins x y z n t) w s d g h = made-keeps ins x y z n t s d g w h
 
--- a row is no longer than the bytes that decide it
+-- four bytes decide any row, and a row is no longer than the bytes that decide it
+row-needs : (x : Row) → Sized x → needed x ≤ 4
+row-needs gap w = omega arith
+row-needs (row ins x y z n t) w = omega (arith, leb→le n 4 (both-left (leb n 4) (timed (oneFigure t)) (both-right (leb 1 n) (leb n 4 && timed (oneFigure t)) w)))
+
+row-length : (x : Row) (s d : List ℕ) → recordOf x s d .length .0 ≤ needed x
+row-length gap s d = omega arith
+row-length (row ins x y z n t) s d = omega arith
+
 no-longer : (b : Bool) (x : Row) → Sized x → (s d : List ℕ) → recordOf x s d .length .0 ≤ neededBehind b x
-no-longer true gap w s d = omega arith
-no-longer false gap w s d = omega arith
-no-longer true (row ins x y z n t) w s d = leb→le n 4 (both-left (leb n 4) (timed (oneFigure t)) (both-right (leb 1 n) (leb n 4 && timed (oneFigure t)) w))
-no-longer false (row ins x y z n t) w s d = omega arith
+no-longer true x w s d = omega (arith, row-length x s d, row-needs x w)
+no-longer false x w s d = row-length x s d
+
+needed-most : (b : Bool) (x : Row) → Sized x → neededBehind b x ≤ 4
+needed-most true x w = omega (arith, row-needs x w)
+needed-most false x w = row-needs x w
+
+pub needed-at-most : (s : List ℕ) → neededOf s ≤ 4
+needed-at-most s = needed-most (isPrefix (getD s 0 0)) (rowOf s) (row-sized s)
 
 pub sizes : (s : List ℕ) → decodeOf s .answer ≡ Answer.Done → Keeps (length s) (decodeOf s .rec)
 sizes s e =
@@ -181,14 +194,6 @@ sizes s e =
     subst (λ (o : OpCode). Keeps (length s) o) (sym (ap (λ (u : Decoded). u .rec) (w .made)))
     (record-keeps x (row-sized s) (operandBytes s) (four s) (length s)
     (le-trans (no-longer (isPrefix (getD s 0 0)) x (row-sized s) (operandBytes s) (four s)) (w .enough)))
-
-needed-most : (b : Bool) (x : Row) → Sized x → neededBehind b x ≤ 4
-needed-most true x w = omega arith
-needed-most false gap w = omega arith
-needed-most false (row ins x y z n t) w = leb→le n 4 (both-left (leb n 4) (timed (oneFigure t)) (both-right (leb 1 n) (leb n 4 && timed (oneFigure t)) w))
-
-pub needed-at-most : (s : List ℕ) → neededOf s ≤ 4
-needed-at-most s = needed-most (isPrefix (getD s 0 0)) (rowOf s) (row-sized s)
 
 -- four bytes are never refused
 pub four-decide : (s : List ℕ) → length s ≡ 4 → decodeOf s .answer ≡ Answer.Done

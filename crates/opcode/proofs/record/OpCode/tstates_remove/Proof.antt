@@ -1,64 +1,35 @@
+-- `OpCode::tstates_remove` meets its contract: refused where `may_remove` says no, else the six places with the count. Assumes nothing.
+use mathlib.Core.Path.{sym, _∙_}
+use native.Mathlib.Omega.{arith}
 use borrow.Author.Needs.{needs}
-use borrow.Author.Tests.{lt-ltb, le-ltb, le-leb, lt-leb}
-use mathlib.Core.Path.{_≡_, refl}
+use borrow.Author.Tests.{not-true, not-false}
 use Rattle.opcode.specs.Timing.{removeOf}
+use Rattle.opcode.proofs.Laws.{one-filled}
 use Rattle.opcode.proofs.record.OpCode.tstates_remove.Statement.{statement}
 use Rattle.opcode.proofs.record.OpCode.tstates_remove.Tie as tie
 
 cast-m : tie.Need-cast-m
 cast-m c = search needs
 
+may-remove-requires : tie.Need-may-remove-requires
+may-remove-requires c κs = search needs
+
 returns : tie.Need-returns
 unfolding removeOf
-returns c = rw (lt-ltb _ _ (c .if1 .taken))
+returns c = rw (sym (c .before .may-remove .ensures) ∙ not-true _ (c .if1 .taken))
+
+with-removed-requires : tie.Need-with-removed-requires
+with-removed-requires c κs = omega (arith, one-filled _ _ (sym (c .before .before .may-remove .ensures) ∙ not-false _ (c .before .if1 .left)))
+
+sub-t11 : tie.Need-sub-t11
+sub-t11 c = omega (arith, one-filled _ _ (sym (c .before .before .before .may-remove .ensures) ∙ not-false _ (c .before .before .if1 .left)))
+
+cast-t12 : tie.Need-cast-t12
+cast-t12 c = omega (arith, one-filled _ _ (sym (c .before .before .before .may-remove .ensures) ∙ not-false _ (c .before .before .if1 .left)))
 
 returns-2 : tie.Need-returns-2
 unfolding removeOf
-returns-2 c = rw (le-ltb _ _ (c .before .if1 .left), le-leb _ _ (c .if2 .taken))
-
-removed-at-requires : tie.Need-removed-at-requires
-removed-at-requires c κs = search needs
-
-removed-at-requires-2 : tie.Need-removed-at-requires-2
-removed-at-requires-2 c κs = search needs
-
-removed-at-requires-3 : tie.Need-removed-at-requires-3
-removed-at-requires-3 c κs = search needs
-
-removed-at-requires-4 : tie.Need-removed-at-requires-4
-removed-at-requires-4 c κs = search needs
-
-removed-at-requires-5 : tie.Need-removed-at-requires-5
-removed-at-requires-5 c κs = search needs
-
-removed-at-requires-6 : tie.Need-removed-at-requires-6
-removed-at-requires-6 c κs = search needs
-
-sub-t16 : tie.Need-sub-t16
-sub-t16 c = search needs
-
-cast-t17 : tie.Need-cast-t17
-cast-t17 c = search needs
-
-returns-3 : tie.Need-returns-3
-unfolding removeOf
-returns-3 c =
-    let e = c .before .before .before .before .before .before .before in
-    rw (le-ltb _ _ (e .before .if1 .left), lt-leb _ _ (e .if2 .left), c .before .before .before .before .before .removed-at .ensures, c .before .before .before .before .removed-at2 .ensures, c .before .before .before .removed-at3 .ensures, c .before .before .removed-at4 .ensures, c .before .removed-at5 .ensures, c .removed-at6 .ensures)
+returns-2 c = rw (sym (c .before .before .before .may-remove .ensures) ∙ not-false _ (c .before .before .if1 .left), c .with-removed .ensures)
 
 pub tstates-remove-spec : {M : Type 1} → statement M
-tstates-remove-spec =
-    tie.close
-    (tie.spec
-    cast-m
-    returns
-    returns-2
-    removed-at-requires
-    removed-at-requires-2
-    removed-at-requires-3
-    removed-at-requires-4
-    removed-at-requires-5
-    removed-at-requires-6
-    sub-t16
-    cast-t17
-    returns-3)
+tstates-remove-spec = tie.close (tie.spec cast-m may-remove-requires returns with-removed-requires sub-t11 cast-t12 returns-2)
