@@ -1,9 +1,9 @@
 -- What stands at each place after an insertion and a removal, and the sum of six places. Assumes nothing.
-use mathlib.Core.Path.{_≡_, refl, sym, ap, _∙_}
+use mathlib.Core.Path.{_≡_, refl, ap, _∙_}
 use mathlib.Core.List.{List, [], _∷_, _++_, append-nil}
-use Prim.Native.Nat.{ℕ, suc, _+_, _-_, _<_, _≤_}
+use Prim.Native.Nat.{ℕ, _+_, _-_, _<_, _≤_}
 use native.Mathlib.Omega.{arith}
-use lib.ListN.{length, take, drop, getD, length-map, length-take, drop-of-length-le, List·getD-append, List·getD-eq-default}
+use lib.ListN.{length, take, drop, getD, length-take, drop-of-length-le, List·getD-append, List·getD-eq-default}
 use lib.Seq.{getD-take, getD-drop, getD-append-add, length-take-le, take-all}
 use native.Mathlib.Nat.{min-le-left}
 use borrow.Author.Tests.{le-leb, leb-true, ltb-true}

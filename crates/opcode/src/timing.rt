@@ -93,20 +93,20 @@ fn with_removed(t: [TStates; 6], m: usize, pos: usize) -> [TStates; 6]
 fn may_insert(m: usize, pos: usize, n: usize) -> bool
     ensures { λ r. ⌜ r ≡ mayInsert m pos n ⌝ }
 {
-    if 6 < m {
+    if OpCode::PLACES < m {
         return false;
     }
     if m < pos {
         return false;
     }
-    n <= 6 - m
+    n <= OpCode::PLACES - m
 }
 
 // May place pos of m filled ones be taken out?
 fn may_remove(m: usize, pos: usize) -> bool
     ensures { λ r. ⌜ r ≡ mayRemove m pos ⌝ }
 {
-    if 6 < m {
+    if OpCode::PLACES < m {
         return false;
     }
     pos < m

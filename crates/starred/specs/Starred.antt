@@ -16,7 +16,6 @@ use Rattle.opcode.specs.declared.instruction.Instruction.the-variants.{BIT, DJN
 use Rattle.opcode.specs.Record.{emptyOf}
 use Rattle.table.specs.declared.Answer.{Answer}
 use Rattle.table.specs.declared.Answer.the-variants.{Short, Long}
-use Rattle.table.specs.declared.Decoded.{Decoded}
 use Rattle.table.specs.Decode.{decodeOf}
 
 pub data Starred : Type 0 where

@@ -1,22 +1,18 @@
 -- What one to three bytes decide, added bytes up to four do not change but for data.
 -- Assumes nothing.
 use mathlib.Core.Path.{_≡_, refl, sym, ap, subst, _∙_}
-use mathlib.Core.Logic.{_⊎_, inl, inr, ⊎-elim}
-use mathlib.Core.Bool.{Bool, true, false, cond, _&&_, _||_}
-use mathlib.Core.List.{List, [], _∷_, _++_, append-nil}
+use mathlib.Core.Bool.{Bool, true, false, _&&_, _||_}
+use mathlib.Core.List.{List, _++_}
 use Prim.Native.Nat.{ℕ, _+_, _<_, _≤_}
 use native.Mathlib.Omega.{arith}
 use native.Mathlib.Nat.{le-trans}
 use lib.Dec.{T, eqb, leb, leb→le}
 use lib.ListN.{length, drop, getD, length-append, List·getD-append}
 use lib.Seq.{getD-drop}
-use Rattle.opcode.specs.declared.operand.Operand.{Operand}
-use Rattle.opcode.specs.declared.operand.Place.{Place}
 use Rattle.opcode.specs.declared.record.OpCode.{OpCode}
 use Rattle.table.specs.declared.Answer.{Answer}
 use Rattle.table.specs.declared.Decoded.{Decoded}
-use Rattle.table.specs.Signed.{relativeOf}
-use Rattle.table.specs.Row.{Kind, none, is, hl, h, l, at-hl, byte, word, at-word, at-port, rel, at-index, byte-behind, Cycles, Row, row, gap, read, wordOf, indexOf}
+use Rattle.table.specs.Row.{Kind, none, is, hl, h, l, at-hl, byte, word, at-word, at-port, rel, at-index, byte-behind, Row, row, gap, read}
 use Rattle.table.specs.Departures.{needed, neededBehind}
 use Rattle.table.specs.Plain.{plain}
 use Rattle.table.specs.Cb.{cb}

@@ -1,6 +1,5 @@
 -- A test that holds on every line of a page, and where there is no row, holds at every code; and tests through a choice.
 -- Assumes nothing.
-use mathlib.Core.Path.{_≡_, refl}
 use mathlib.Core.Bool.{Bool, true, false, cond, _&&_}
 use mathlib.Core.List.{List, [], _∷_}
 use Prim.Native.Nat.{ℕ, zero, suc}

@@ -7,7 +7,7 @@ use Prim.Native.Nat.{ℕ, zero, suc, _+_, _<_, _≤_}
 use native.Mathlib.Omega.{arith}
 use lib.Dec.{eqb, ltb}
 use lib.ListN.{length, drop, getD, List·getD-map}
-use borrow.Author.Tests.{lt-ltb, le-ltb, ne-eqb, eqb-true}
+use borrow.Author.Tests.{lt-ltb, le-ltb, eqb-true}
 use Rattle.opcode.specs.declared.registers.Reg8.{Reg8}
 use Rattle.opcode.specs.declared.registers.Reg16.{Reg16}
 use Rattle.opcode.specs.declared.operand.Operand.{Operand}
@@ -19,7 +19,7 @@ use Rattle.opcode.specs.Record.{six, emptyOf}
 use Rattle.opcode.specs.Timing.{inserted, removed, mayInsert, mayRemove, insertOf, removeOf}
 use Rattle.table.specs.declared.Answer.{Answer}
 use Rattle.table.specs.declared.Decoded.{Decoded}
-use Rattle.table.specs.Row.{Index, ix, iy, Row, row, gap, indexOf, states}
+use Rattle.table.specs.Row.{Index, ix, iy, Row, gap, indexOf, states}
 use Rattle.table.specs.Families.{high, low}
 use Rattle.table.specs.Departures.{needed, ed-behind}
 use Rattle.table.specs.Plain.{plain}

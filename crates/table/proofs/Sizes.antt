@@ -1,7 +1,7 @@
 -- The sizes of a decoded record: its length, its machine cycles, its T-state places and its row time.
 -- Assumes nothing.
 use mathlib.Core.Path.{_≡_, refl, sym, ap, subst, _∙_}
-use mathlib.Core.Bool.{Bool, true, false, cond, _&&_, _||_}
+use mathlib.Core.Bool.{Bool, true, false, _&&_}
 use mathlib.Core.List.{List, [], _∷_}
 use Prim.Native.Nat.{ℕ, zero, suc, _+_, _<_, _≤_}
 use native.Mathlib.Omega.{arith}
@@ -19,10 +19,10 @@ use Rattle.table.specs.Departures.{oneFigure, ed-behind, needed, neededB
 use Rattle.table.specs.Plain.{plain}
 use Rattle.table.specs.Cb.{cb}
 use Rattle.table.specs.Ed.{ed}
-use Rattle.table.specs.Prefix.{prefixRow, ldIndexed, bitRow, behindRow}
+use Rattle.table.specs.Prefix.{prefixRow, bitRow, behindRow}
 use Rattle.table.specs.Decode.{isPrefix, pageRow, rowOf, operandBytes, made, recordOf, four, neededOf, decodeOf}
 use Rattle.table.proofs.Pages.{both-left, both-right, every, at-code, chosen}
-use Rattle.table.proofs.Done.{Decides, decides, decided}
+use Rattle.table.proofs.Done.{decides, decided}
 
 -- each machine cycle has T-states
 abbrev filled : List ℕ → Bool

@@ -34,7 +34,7 @@ pageRow b0 b1 =
     (cond (eqb b0 0xED) (getD ed b1 gap)
     (getD plain b0 gap))
 
--- the row of some bytes, and where no row takes them a gap
+-- the row of some bytes, and where no row takes them a gap; a byte that is not there reads as zero, and the row then needs more bytes than there are
 unfoldable pub rowOf : List ℕ → Row
 rowOf s =
     cond (eqb (getD s 0 0) 0xDD) (behindRow ix (getD s 1 0) (getD s 2 0) (getD s 3 0))

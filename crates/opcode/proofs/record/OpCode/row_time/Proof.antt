@@ -2,7 +2,6 @@
 use mathlib.Core.Path.{ap}
 use Prim.Native.Nat.{ℕ}
 use borrow.Author.Needs.{needs}
-use Rattle.opcode.specs.declared.counts.RowTime.{RowTime}
 use Rattle.opcode.proofs.record.OpCode.row_time.Statement.{statement}
 use Rattle.opcode.proofs.record.OpCode.row_time.Tie as tie
 

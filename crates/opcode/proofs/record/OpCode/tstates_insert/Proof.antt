@@ -1,11 +1,9 @@
 -- `OpCode::tstates_insert` meets its contract: refused where `may_insert` says no, else the six places with the count. Assumes nothing.
 use mathlib.Core.Path.{sym, _∙_}
-use mathlib.Core.Bool.{true}
-use mathlib.Core.Path.{_≡_}
 use native.Mathlib.Omega.{arith}
 use borrow.Author.Needs.{needs}
 use borrow.Author.Tests.{not-true, not-false}
-use Rattle.opcode.specs.Timing.{mayInsert, insertOf}
+use Rattle.opcode.specs.Timing.{insertOf}
 use Rattle.opcode.proofs.Laws.{room}
 use Rattle.opcode.proofs.record.OpCode.tstates_insert.Statement.{statement}
 use Rattle.opcode.proofs.record.OpCode.tstates_insert.Tie as tie

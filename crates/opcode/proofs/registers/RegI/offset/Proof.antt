@@ -1,10 +1,7 @@
 -- `RegI::offset` meets its contract: each arm knows its variant, and the displacement read back from its bits is the one stored. Assumes nothing.
-use mathlib.Core.Path.{ap, sym, _∙_}
-use lib.IntN.{ℤ}
 use mir.Syntax.{w8}
 use mir.ValLaws.{toZ-ofZ}
 use borrow.Author.Needs.{needs}
-use Rattle.opcode.specs.Operand.{offsetOf}
 use Rattle.opcode.proofs.registers.RegI.offset.Statement.{statement}
 use Rattle.opcode.proofs.registers.RegI.offset.Tie as tie
 
