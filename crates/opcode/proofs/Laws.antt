@@ -12,50 +12,50 @@ use mathlib.Core.Bool.{Bool, true, false, _&&_, false≢true}
 use Rattle.opcode.specs.declared.counts.TStates.{TStates}
 use Rattle.opcode.specs.declared.timing.Timing.{Timing}
 use Rattle.opcode.specs.declared.record.OpCode.{OpCode}
-use Rattle.opcode.specs.Record.{zero, sum}
+use Rattle.opcode.specs.Record.{unfilled, sum}
 use Rattle.opcode.specs.Timing.{inserted, removed, mayInsert, mayExtend, mayRemove, insertOf, extendOf, listed}
 
 -- past the first of two lists
-pub past : (xs ys : List TStates) (k : ℕ) → length xs ≤ k → getD (xs ++ ys) k zero ≡ getD ys (k - length xs) zero
-past xs ys k h = let e : k ≡ length xs + (k - length xs) = omega arith in ap (λ (j : ℕ). getD (xs ++ ys) j zero) e ∙ getD-append-add xs ys (k - length xs) zero
+pub past : (xs ys : List TStates) (k : ℕ) → length xs ≤ k → getD (xs ++ ys) k unfilled ≡ getD ys (k - length xs) unfilled
+past xs ys k h = let e : k ≡ length xs + (k - length xs) = omega arith in ap (λ (j : ℕ). getD (xs ++ ys) j unfilled) e ∙ getD-append-add xs ys (k - length xs) unfilled
 
 module _ (l s : List TStates) (pos k : ℕ) (fits : pos ≤ length l) where
   front-len : length (take pos l) ≡ pos
   front-len = length-take-le pos l fits
 
-  pub ins-front : k < pos → getD (inserted l pos s) k zero ≡ getD l k zero
+  pub ins-front : k < pos → getD (inserted l pos s) k unfilled ≡ getD l k unfilled
   unfolding inserted
-  ins-front h = List·getD-append (take pos l) (s ++ drop pos l) zero k (omega (arith, front-len)) ∙ getD-take pos l k zero h
+  ins-front h = List·getD-append (take pos l) (s ++ drop pos l) unfilled k (omega (arith, front-len)) ∙ getD-take pos l k unfilled h
 
-  pub ins-mid : pos ≤ k → k < pos + length s → getD (inserted l pos s) k zero ≡ getD s (k - pos) zero
+  pub ins-mid : pos ≤ k → k < pos + length s → getD (inserted l pos s) k unfilled ≡ getD s (k - pos) unfilled
   unfolding inserted
   ins-mid h g =
       past (take pos l) (s ++ drop pos l) k (omega (arith, front-len))
-      ∙ rw front-len (List·getD-append s (drop pos l) zero (k - pos) (omega arith))
+      ∙ rw front-len (List·getD-append s (drop pos l) unfilled (k - pos) (omega arith))
 
-  pub ins-back : pos + length s ≤ k → getD (inserted l pos s) k zero ≡ getD l (k - length s) zero
+  pub ins-back : pos + length s ≤ k → getD (inserted l pos s) k unfilled ≡ getD l (k - length s) unfilled
   unfolding inserted
   ins-back h =
       past (take pos l) (s ++ drop pos l) k (omega (arith, front-len))
       ∙ rw front-len (past s (drop pos l) (k - pos) (omega arith))
-      ∙ getD-drop pos l (k - pos - length s) zero
-      ∙ ap (λ (j : ℕ). getD l j zero) (omega arith)
+      ∙ getD-drop pos l (k - pos - length s) unfilled
+      ∙ ap (λ (j : ℕ). getD l j unfilled) (omega arith)
 
-  pub rem-front : k < pos → getD (removed l pos) k zero ≡ getD l k zero
+  pub rem-front : k < pos → getD (removed l pos) k unfilled ≡ getD l k unfilled
   unfolding removed
-  rem-front h = List·getD-append (take pos l) (drop (pos + 1) l) zero k (omega (arith, front-len)) ∙ getD-take pos l k zero h
+  rem-front h = List·getD-append (take pos l) (drop (pos + 1) l) unfilled k (omega (arith, front-len)) ∙ getD-take pos l k unfilled h
 
-  pub rem-back : pos ≤ k → getD (removed l pos) k zero ≡ getD l (k + 1) zero
+  pub rem-back : pos ≤ k → getD (removed l pos) k unfilled ≡ getD l (k + 1) unfilled
   unfolding removed
   rem-back h =
       let e : pos + 1 + (k - pos) ≡ k + 1 = omega arith in
       past (take pos l) (drop (pos + 1) l) k (omega (arith, front-len))
-      ∙ rw front-len (getD-drop (pos + 1) l (k - pos) zero)
-      ∙ ap (λ (j : ℕ). getD l j zero) e
+      ∙ rw front-len (getD-drop (pos + 1) l (k - pos) unfilled)
+      ∙ ap (λ (j : ℕ). getD l j unfilled) e
 
 -- past the filled places
-pub blank : (m : ℕ) (t : List TStates) (k : ℕ) → m ≤ length t → m ≤ k → getD (take m t) k zero ≡ zero
-blank m t k h g = List·getD-eq-default (take m t) zero (omega (arith, length-take-le m t h))
+pub blank : (m : ℕ) (t : List TStates) (k : ℕ) → m ≤ length t → m ≤ k → getD (take m t) k unfilled ≡ unfilled
+blank m t k h g = List·getD-eq-default (take m t) unfilled (omega (arith, length-take-le m t h))
 
 -- put in at the end: appended
 pub ins-end : (m : ℕ) (t s : List TStates) → inserted (take m t) m s ≡ take m t ++ s
@@ -87,7 +87,7 @@ unfolding mayRemove
 one-filled m pos e = let f = both (leb m 6) (ltb pos m) e in (leb-true m 6 (f .0), ltb-true pos m (f .1))
 
 -- six places, added one by one
-pub sum-six : (l : List TStates) → length l ≡ 6 → getD l 0 zero .0 + getD l 1 zero .0 + getD l 2 zero .0 + getD l 3 zero .0 + getD l 4 zero .0 + getD l 5 zero .0 ≡ sum l
+pub sum-six : (l : List TStates) → length l ≡ 6 → getD l 0 unfilled .0 + getD l 1 unfilled .0 + getD l 2 unfilled .0 + getD l 3 unfilled .0 + getD l 4 unfilled .0 + getD l 5 unfilled .0 ≡ sum l
 unfolding sum
 sum-six [] h = omega arith
 sum-six (a ∷ []) h = omega arith

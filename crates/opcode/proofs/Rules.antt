@@ -10,7 +10,7 @@ use Rattle.opcode.specs.declared.counts.TStates.{TStates}
 use Rattle.opcode.specs.declared.timing.Timing.{Timing}
 use Rattle.opcode.specs.declared.timing.Edited.{Edited}
 use Rattle.opcode.specs.declared.record.OpCode.{OpCode}
-use Rattle.opcode.specs.Record.{zero, six}
+use Rattle.opcode.specs.Record.{unfilled, six}
 use Rattle.opcode.specs.Timing.{filled, listed, Formed, inserted, removed, timed, no, yes, mayInsert, mayExtend, mayRemove, insertOf, extendOf, pushOf, removeOf}
 use Rattle.opcode.proofs.Laws.{extended, room, one-filled}
 
@@ -57,7 +57,7 @@ module _ (r : OpCode) (places : length (r .tstates) ≡ 6) where
 
   pub push-formed : (t : TStates) → pushOf r t .ok ≡ true → Formed (pushOf r t .rec)
   unfolding pushOf extendOf
-  push-formed t = extend-formed (record { tstates = t ∷ zero ∷ zero ∷ zero ∷ zero ∷ zero ∷ []; mcycles = record { 0 = 1 } }) refl
+  push-formed t = extend-formed (record { tstates = t ∷ unfilled ∷ unfilled ∷ unfilled ∷ unfilled ∷ unfilled ∷ []; mcycles = record { 0 = 1 } }) refl
 
   pub remove-formed : (pos : ℕ) → removeOf r pos .ok ≡ true → Formed (removeOf r pos .rec)
   unfolding removeOf removed

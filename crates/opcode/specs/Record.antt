@@ -8,12 +8,13 @@ use Rattle.opcode.specs.declared.instruction.Instruction.{Instruction}
 use Rattle.opcode.specs.declared.operand.Place.{Place}
 use Rattle.opcode.specs.declared.record.OpCode.{OpCode}
 
-abbrev pub zero : TStates
-zero = record { 0 = 0 }
+-- a place that is not filled
+abbrev pub unfilled : TStates
+unfilled = record { 0 = 0 }
 
 -- six places: the list, and zeros past its end
 abbrev pub six : List TStates → List TStates
-six l = getD l 0 zero ∷ getD l 1 zero ∷ getD l 2 zero ∷ getD l 3 zero ∷ getD l 4 zero ∷ getD l 5 zero ∷ []
+six l = getD l 0 unfilled ∷ getD l 1 unfilled ∷ getD l 2 unfilled ∷ getD l 3 unfilled ∷ getD l 4 unfilled ∷ getD l 5 unfilled ∷ []
 
 -- NOP, length 0, no operands, data and T-states zero, machine cycles 0
 abbrev pub emptyOf : OpCode

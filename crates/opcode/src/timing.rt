@@ -3,7 +3,7 @@
 ghost use mathlib.Core.Path.{_≡_};
 ghost use Prim.Native.Nat.{_+_, _≤_, _<_};
 ghost use lib.ListN.{take, getD};
-ghost use Rattle.opcode.specs.Record.{zero, six};
+ghost use Rattle.opcode.specs.Record.{unfilled, six};
 ghost use Rattle.opcode.specs.Timing.{inserted, removed, mayInsert, mayRemove, insertOf, extendOf, pushOf, removeOf};
 use super::counts::MCycles;
 use super::counts::TStates;
@@ -31,7 +31,7 @@ fn inserted_at(
     k: usize,
 ) -> TStates
     requires { ⌜ (pos ≤ m) × (m + n ≤ 6) × (k < 6) ⌝ }
-    ensures { λ r. ⌜ r ≡ getD (inserted (take m t) pos (take n s)) k zero ⌝ }
+    ensures { λ r. ⌜ r ≡ getD (inserted (take m t) pos (take n s)) k unfilled ⌝ }
 {
     if k < pos {
         return t[k];
@@ -63,7 +63,7 @@ fn with_inserted(t: [TStates; 6], m: usize, pos: usize, s: [TStates; 6], n: usiz
 // Place k once place pos of the first m of t is taken out.
 fn removed_at(t: [TStates; 6], m: usize, pos: usize, k: usize) -> TStates
     requires { ⌜ (pos < m) × (m ≤ 6) × (k < 6) ⌝ }
-    ensures { λ r. ⌜ r ≡ getD (removed (take m t) pos) k zero ⌝ }
+    ensures { λ r. ⌜ r ≡ getD (removed (take m t) pos) k unfilled ⌝ }
 {
     if k < pos {
         return t[k];

@@ -17,51 +17,11 @@ use Rattle.table.specs.Plain.{plain}
 use Rattle.table.specs.Cb.{cb}
 use Rattle.table.specs.Ed.{ed}
 use Rattle.table.specs.Decode.{numberOf, isPrefix, pageRow, rowOf, operandBytes, recordOf, four, neededOf, decodeOf}
+use Rattle.table.specs.Consequences.{Bytes, first, second, Prefixed, Undefined, Alone, lengthOf, Cut, NothingWhen, ShortWhen, LongWhen}
 use Rattle.table.proofs.Upto.{values, agree}
 use Rattle.table.proofs.Pages.{every, at-code}
 use Rattle.table.proofs.Done.{verdict}
 use Rattle.table.proofs.Sizes.{needed-at-most}
-
--- a list of bytes
-abbrev pub Bytes : List ℕ → Type 0
-Bytes s = (k : ℕ) → getD s k 0 < 256
-
-abbrev pub first : List ℕ → ℕ
-first s = getD s 0 0
-
-abbrev pub second : List ℕ → ℕ
-second s = getD s 1 0
-
--- the first is DD or FD
-abbrev pub Prefixed : List ℕ → Type 0
-Prefixed s = (first s ≡ 0xDD) ⊎ (first s ≡ 0xFD)
-
--- CB or ED with its code yet to come: fewer than the length of every row of its page
-abbrev pub Alone : List ℕ → Type 0
-Alone s = (length s ≡ 1) × ((first s ≡ 0xCB) ⊎ (first s ≡ 0xED))
-
--- the code is an undefined ED one
-abbrev pub Undefined : List ℕ → Type 0
-Undefined s = (1 < length s) × (first s ≡ 0xED) × (getD ed (second s) gap ≡ gap)
-
--- a row's length in bytes
-abbrev pub lengthOf : Row → ℕ
-lengthOf gap = 0
-lengthOf (row i x y z n t) = n
-
--- fewer than the row's length
-abbrev pub Cut : List ℕ → Type 0
-Cut s = length s < lengthOf (pageRow (first s) (second s))
-
-abbrev pub NothingWhen : List ℕ → Type 0
-NothingWhen s = length s ≡ 0
-
-abbrev pub LongWhen : List ℕ → Type 0
-LongWhen s = 4 < length s
-
--- one to three bytes: fewer than the row's length, or fewer than four where the first is DD or FD or the code is an undefined ED one
-abbrev pub ShortWhen : List ℕ → Type 0
-ShortWhen s = (1 ≤ length s) × (length s ≤ 3) × (Prefixed s ⊎ (Undefined s ⊎ (Alone s ⊎ Cut s)))
 
 -- what the three tests of `verdict` say of its answer
 module _ (r : OpCode) where

@@ -9,7 +9,6 @@ use native.Mathlib.Nat.{le-trans}
 use lib.Dec.{T, eqb, leb, leb→le}
 use lib.ListN.{length, drop, getD, length-append, List·getD-append}
 use lib.Seq.{getD-drop}
-use Rattle.opcode.specs.declared.record.OpCode.{OpCode}
 use Rattle.table.specs.declared.Answer.{Answer}
 use Rattle.table.specs.declared.Decoded.{Decoded}
 use Rattle.table.specs.Row.{Kind, none, is, hl, h, l, at-hl, byte, word, at-word, at-port, rel, at-index, byte-behind, Row, row, gap, read}
@@ -18,9 +17,10 @@ use Rattle.table.specs.Plain.{plain}
 use Rattle.table.specs.Cb.{cb}
 use Rattle.table.specs.Ed.{ed}
 use Rattle.table.specs.Decode.{isPrefix, pageRow, rowOf, operandBytes, recordOf, four, neededOf, done, decodeOf}
+use Rattle.table.specs.Consequences.{first, second, withData}
 use Rattle.table.proofs.Pages.{both-left, both-right, every, at-code}
 use Rattle.table.proofs.Done.{Decides, decides, decided}
-use Rattle.table.proofs.Answers.{first, second, page-row}
+use Rattle.table.proofs.Answers.{page-row}
 
 -- how many of the bytes behind the code a kind reads
 abbrev reach : Kind → ℕ
@@ -52,7 +52,7 @@ read-same at-word u v e = rw (e 0 (omega arith), e 1 (omega arith))
 read-same at-port u v e = rw (e 0 (omega arith))
 read-same rel u v e = rw (e 0 (omega arith))
 read-same (at-index i) u v e = rw (e 0 (omega arith))
-read-same byte-behind u v e = simp (e 0 (omega arith), e 1 (omega arith))
+read-same byte-behind u v e = rw (e 1 (omega arith))
 
 -- a row whose code has c bytes reads no byte past its length
 abbrev inside : ℕ → Row → Bool
@@ -70,20 +70,6 @@ cb-inside = tt
 ed-inside : T (every (inside 2) ed)
 unfolding ed
 ed-inside = tt
-
--- the record with other data
-abbrev pub withData : OpCode → List ℕ → OpCode
-withData o d =
-    record {
-      length = o .length;
-      ins = o .ins;
-      op1 = o .op1;
-      op2 = o .op2;
-      op3 = o .op3;
-      «data» = d;
-      tstates = o .tstates;
-      mcycles = o .mcycles;
-    }
 
 -- the record of a row whose c bytes of code, and what it reads behind them, are there
 module _ (s t : List ℕ) (c : ℕ) where

@@ -2,9 +2,9 @@ pub mod Upto
 pub mod Pages
 pub mod Bits
 pub mod Signed
+pub mod Departures
 pub mod Done
 pub mod Sizes
 pub mod Answers
-pub mod Decided
 pub mod Recursive
-pub mod Departures
+pub mod Decided

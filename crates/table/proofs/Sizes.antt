@@ -3,7 +3,7 @@
 use mathlib.Core.Path.{_≡_, refl, sym, ap, subst, _∙_}
 use mathlib.Core.Bool.{Bool, true, false, _&&_}
 use mathlib.Core.List.{List, [], _∷_}
-use Prim.Native.Nat.{ℕ, zero, suc, _+_, _<_, _≤_}
+use Prim.Native.Nat.{ℕ, zero, suc, _<_, _≤_}
 use native.Mathlib.Omega.{arith}
 use lib.Dec.{T, eqb, ltb, leb, leb→le, ltb→lt}
 use native.Mathlib.Nat.{le-of-suc-le-suc, le-trans}
@@ -11,7 +11,7 @@ use lib.ListN.{length, getD, List·getD-eq-default}
 use Rattle.opcode.specs.declared.counts.TStates.{TStates}
 use Rattle.opcode.specs.declared.instruction.Instruction.{Instruction}
 use Rattle.opcode.specs.declared.record.OpCode.{OpCode}
-use Rattle.opcode.specs.Record.{zero as none-yet, six, sum, timeOf}
+use Rattle.opcode.specs.Record.{unfilled, six, sum}
 use Rattle.table.specs.declared.Answer.{Answer}
 use Rattle.table.specs.declared.Decoded.{Decoded}
 use Rattle.table.specs.Row.{Index, ix, iy, Kind, none, Cycles, Row, row, gap, t1, states}
@@ -21,6 +21,7 @@ use Rattle.table.specs.Cb.{cb}
 use Rattle.table.specs.Ed.{ed}
 use Rattle.table.specs.Prefix.{prefixRow, bitRow, behindRow}
 use Rattle.table.specs.Decode.{isPrefix, pageRow, rowOf, operandBytes, made, recordOf, four, neededOf, decodeOf}
+use Rattle.table.specs.Consequences.{Keeps, total}
 use Rattle.table.proofs.Pages.{both-left, both-right, every, at-code, chosen}
 use Rattle.table.proofs.Done.{decides, decided}
 
@@ -28,10 +29,6 @@ use Rattle.table.proofs.Done.{decides, decided}
 abbrev filled : List ℕ → Bool
 filled [] = true
 filled (t ∷ ts) = ltb 0 t && filled ts
-
-abbrev pub total : List ℕ → ℕ
-total [] = 0
-total (t ∷ ts) = t + total ts
 
 abbrev timed : List ℕ → Bool
 timed ts = ltb 0 (length ts) && (leb (length ts) 6 && (filled ts && (leb 4 (total ts) && leb (total ts) 23)))
@@ -92,36 +89,23 @@ row-sized s =
     chosen Sized (eqb (getD s 0 0) 0xDD) _ _ (behind-sized ix (getD s 1 0) (getD s 2 0) (getD s 3 0))
     (chosen Sized (eqb (getD s 0 0) 0xFD) _ _ (behind-sized iy (getD s 1 0) (getD s 2 0) (getD s 3 0)) (page-sized (getD s 0 0) (getD s 1 0)))
 
--- what a decoded record of n given bytes keeps to
-pub record Keeps (n : ℕ) (o : OpCode) : Type 0 where
-  pub length-least : 1 ≤ o .length .0
-  pub length-most : o .length .0 ≤ 4
-  pub length-given : o .length .0 ≤ n
-  pub cycles-least : 1 ≤ o .mcycles .0
-  pub cycles-most : o .mcycles .0 ≤ 6
-  pub places : length (o .tstates) ≡ 6
-  pub first-filled : (k : ℕ) → k < o .mcycles .0 → 0 < getD (o .tstates) k none-yet .0
-  pub rest-zero : (k : ℕ) → o .mcycles .0 ≤ k → getD (o .tstates) k none-yet ≡ none-yet
-  pub time-least : 4 ≤ timeOf o .0
-  pub time-most : timeOf o .0 ≤ 23
-
 length-states : (ts : List ℕ) → length (states ts) ≡ length ts
 length-states [] = refl
 length-states (t ∷ ts) = ap suc (length-states ts)
 
-state : (ts : List ℕ) (k : ℕ) → getD (states ts) k none-yet .0 ≡ getD ts k 0
+state : (ts : List ℕ) (k : ℕ) → getD (states ts) k unfilled .0 ≡ getD ts k 0
 state [] k = refl
 state (t ∷ ts) zero = refl
 state (t ∷ ts) (suc k) = state ts k
 
-place : (l : List TStates) → length l ≤ 6 → (k : ℕ) → getD (six l) k none-yet ≡ getD l k none-yet
+place : (l : List TStates) → length l ≤ 6 → (k : ℕ) → getD (six l) k unfilled ≡ getD l k unfilled
 place l h zero = refl
 place l h (suc zero) = refl
 place l h (suc (suc zero)) = refl
 place l h (suc (suc (suc zero))) = refl
 place l h (suc (suc (suc (suc zero)))) = refl
 place l h (suc (suc (suc (suc (suc zero))))) = refl
-place l h (suc (suc (suc (suc (suc (suc k)))))) = sym (List·getD-eq-default l none-yet (omega arith))
+place l h (suc (suc (suc (suc (suc (suc k)))))) = sym (List·getD-eq-default l unfilled (omega arith))
 
 fill : (ts : List ℕ) → T (filled ts) → (k : ℕ) → k < length ts → 0 < getD ts k 0
 fill [] f k h = absurd (omega arith)
@@ -158,7 +142,7 @@ made-keeps ins x y z n t s d g w h =
       cycles-most = six-most;
       places = refl;
       first-filled = λ k q. subst (λ (m : ℕ). 0 < m) (sym (ap (λ (u : TStates). u .0) (place (states ts) room k) ∙ state ts k)) (fill ts (both-left (filled ts) _ w4) k q);
-      rest-zero = λ k q. place (states ts) room k ∙ List·getD-eq-default (states ts) none-yet (rw (length-states ts) q);
+      rest-zero = λ k q. place (states ts) room k ∙ List·getD-eq-default (states ts) unfilled (rw (length-states ts) q);
       time-least = rw (added ts six-most) (leb→le 4 (total ts) (both-left (leb 4 (total ts)) _ w5));
       time-most = rw (added ts six-most) (leb→le (total ts) 23 (both-right (leb 4 (total ts)) _ w5));
     }

@@ -7,3 +7,5 @@ pub mod Cb
 pub mod Ed
 pub mod Prefix
 pub mod Decode
+pub mod Consequences
+pub mod Steps

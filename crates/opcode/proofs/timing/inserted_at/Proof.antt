@@ -4,7 +4,7 @@ use Prim.Native.Nat.{ℕ, _-_}
 use native.Mathlib.Omega.{arith}
 use lib.ListN.{length, take, getD}
 use lib.Seq.{getD-take, length-take-le}
-use Rattle.opcode.specs.Record.{zero}
+use Rattle.opcode.specs.Record.{unfilled}
 use Rattle.opcode.proofs.Laws.{ins-front, ins-mid, ins-back, blank}
 use Rattle.opcode.proofs.timing.inserted_at.Statement.{statement}
 use Rattle.opcode.proofs.timing.inserted_at.Tie as tie
@@ -31,7 +31,7 @@ returns c =
     let b = c .before .before in
     let a = b .args in
     sym (ins-front (take (a .m) (a .t1)) (take (a .n) (a .t4)) (a .pos) (a .k) (omega (arith, fill b)) (c .before .if1 .taken)
-    ∙ getD-take (a .m) (a .t1) (a .k) zero (omega arith))
+    ∙ getD-take (a .m) (a .t1) (a .k) unfilled (omega arith))
 
 add-if2 : tie.Need-add-if2
 add-if2 c = search needs
@@ -44,7 +44,7 @@ returns-2 c =
     let b = c .before .before .before in
     let a = b .args in
     sym (ins-mid (take (a .m) (a .t1)) (take (a .n) (a .t4)) (a .pos) (a .k) (omega (arith, fill b)) (omega arith) (omega (arith, fill-s b))
-    ∙ getD-take (a .n) (a .t4) (a .k - a .pos) zero (omega arith))
+    ∙ getD-take (a .n) (a .t4) (a .k - a .pos) unfilled (omega arith))
 
 add-if3 : tie.Need-add-if3
 add-if3 c = search needs
@@ -60,8 +60,8 @@ returns-3 c =
     let b = c .before .before .before .before in
     let a = b .args in
     sym (ins-back (take (a .m) (a .t1)) (take (a .n) (a .t4)) (a .pos) (a .k) (omega (arith, fill b)) (omega (arith, fill-s b))
-    ∙ ap (λ (j : ℕ). getD (take (a .m) (a .t1)) (a .k - j) zero) (fill-s b)
-    ∙ getD-take (a .m) (a .t1) (a .k - a .n) zero (omega arith))
+    ∙ ap (λ (j : ℕ). getD (take (a .m) (a .t1)) (a .k - j) unfilled) (fill-s b)
+    ∙ getD-take (a .m) (a .t1) (a .k - a .n) unfilled (omega arith))
 
 returns-4 : tie.Need-returns-4
 returns-4 c =

@@ -5,7 +5,7 @@ use Prim.Native.Nat.{_+_, _-_}
 use native.Mathlib.Omega.{arith}
 use lib.ListN.{length, take}
 use lib.Seq.{getD-take, length-take-le}
-use Rattle.opcode.specs.Record.{zero}
+use Rattle.opcode.specs.Record.{unfilled}
 use Rattle.opcode.proofs.Laws.{rem-front, rem-back, blank}
 use Rattle.opcode.proofs.timing.removed_at.Statement.{statement}
 use Rattle.opcode.proofs.timing.removed_at.Tie as tie
@@ -26,7 +26,7 @@ returns c =
     let b = c .before .before in
     let a = b .args in
     sym (rem-front (take (a .m) (a .t1)) [] (a .pos) (a .k) (omega (arith, fill b)) (c .before .if1 .taken)
-    ∙ getD-take (a .m) (a .t1) (a .k) zero (omega arith))
+    ∙ getD-take (a .m) (a .t1) (a .k) unfilled (omega arith))
 
 add-if2 : tie.Need-add-if2
 add-if2 c = search needs
@@ -42,7 +42,7 @@ returns-2 c =
     let b = c .before .before .before in
     let a = b .args in
     sym (rem-back (take (a .m) (a .t1)) [] (a .pos) (a .k) (omega (arith, fill b)) (omega arith)
-    ∙ getD-take (a .m) (a .t1) (a .k + 1) zero (omega arith))
+    ∙ getD-take (a .m) (a .t1) (a .k + 1) unfilled (omega arith))
 
 returns-3 : tie.Need-returns-3
 returns-3 c =

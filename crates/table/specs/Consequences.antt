@@ -1,0 +1,116 @@
+-- The words in which the theorems about the table are stated. Definitions only.
+use Prim.Native.Nat.{ℕ, _+_, _-_, _<_, _≤_}
+use mathlib.Core.Path.{_≡_}
+use mathlib.Core.Logic.{_⊎_}
+use mathlib.Core.Bool.{Bool, true, false, cond, not, _&&_, _||_}
+use mathlib.Core.List.{List, [], _∷_}
+use lib.Dec.{eqb, ltb}
+use lib.IntN.{ℤ, pos, negsuc}
+use lib.ListN.{length, getD}
+use Rattle.opcode.specs.declared.record.OpCode.{OpCode}
+use Rattle.opcode.specs.Record.{unfilled, timeOf}
+use Rattle.table.specs.Row.{always, conditional, repeating, Row, row, gap, is-at-hl}
+use Rattle.table.specs.Departures.{oneFigure, afterFirst}
+use Rattle.table.specs.Ed.{ed}
+use Rattle.table.specs.Prefix.{is-hl}
+use Rattle.table.specs.Decode.{pageRow}
+
+-- a list of bytes
+abbrev pub Bytes : List ℕ → Type 0
+Bytes s = (k : ℕ) → getD s k 0 < 256
+
+abbrev pub first : List ℕ → ℕ
+first s = getD s 0 0
+
+abbrev pub second : List ℕ → ℕ
+second s = getD s 1 0
+
+-- the first is DD or FD
+abbrev pub Prefixed : List ℕ → Type 0
+Prefixed s = (first s ≡ 0xDD) ⊎ (first s ≡ 0xFD)
+
+-- the code is an undefined ED one
+abbrev pub Undefined : List ℕ → Type 0
+Undefined s = (1 < length s) × (first s ≡ 0xED) × (getD ed (second s) gap ≡ gap)
+
+-- CB or ED with its code yet to come: fewer than the length of every row of its page
+abbrev pub Alone : List ℕ → Type 0
+Alone s = (length s ≡ 1) × ((first s ≡ 0xCB) ⊎ (first s ≡ 0xED))
+
+abbrev pub lengthOf : Row → ℕ
+lengthOf gap = 0
+lengthOf (row i x y z n t) = n
+
+-- fewer than the row's length
+abbrev pub Cut : List ℕ → Type 0
+Cut s = length s < lengthOf (pageRow (first s) (second s))
+
+-- 1, Nothing: no bytes
+abbrev pub NothingWhen : List ℕ → Type 0
+NothingWhen s = length s ≡ 0
+
+-- 2, Short: one to three bytes, fewer than the row's length, or fewer than four where the first is DD or FD or the code is an undefined ED one
+abbrev pub ShortWhen : List ℕ → Type 0
+ShortWhen s = (1 ≤ length s) × (length s ≤ 3) × (Prefixed s ⊎ (Undefined s ⊎ (Alone s ⊎ Cut s)))
+
+-- 3, Long: over four bytes
+abbrev pub LongWhen : List ℕ → Type 0
+LongWhen s = 4 < length s
+
+-- what a decoded record of n given bytes keeps to: its length, its machine cycles m, the first m of six T-state places filled and the rest zero, its row time
+pub record Keeps (n : ℕ) (o : OpCode) : Type 0 where
+  pub length-least : 1 ≤ o .length .0
+  pub length-most : o .length .0 ≤ 4
+  pub length-given : o .length .0 ≤ n
+  pub cycles-least : 1 ≤ o .mcycles .0
+  pub cycles-most : o .mcycles .0 ≤ 6
+  pub places : length (o .tstates) ≡ 6
+  pub first-filled : (k : ℕ) → k < o .mcycles .0 → 0 < getD (o .tstates) k unfilled .0
+  pub rest-zero : (k : ℕ) → o .mcycles .0 ≤ k → getD (o .tstates) k unfilled ≡ unfilled
+  pub time-least : 4 ≤ timeOf o .0
+  pub time-most : timeOf o .0 ≤ 23
+
+-- the record with other data
+abbrev pub withData : OpCode → List ℕ → OpCode
+withData o d =
+    record {
+      length = o .length;
+      ins = o .ins;
+      op1 = o .op1;
+      op2 = o .op2;
+      op3 = o .op3;
+      «data» = d;
+      tstates = o .tstates;
+      mcycles = o .mcycles;
+    }
+
+-- displacements: 0 to 127, then -128 to -1; `negsuc n` is -(n + 1)
+abbrev pub displacement : ℕ → ℤ
+displacement b = cond (ltb b 128) (pos b) (negsuc (255 - b))
+
+-- relative operands: 2 to 129, then -126 to -1, then 0 and 1
+abbrev pub relative : ℕ → ℤ
+relative b = cond (ltb b 128) (pos (b + 2)) (cond (ltb b 254) (negsuc (253 - b)) (pos (b - 254)))
+
+-- the sum of a list of T-states
+abbrev pub total : List ℕ → ℕ
+total [] = 0
+total (t ∷ ts) = t + total ts
+
+-- a conditional row shows the larger of UM0080's two figures; a repeating row the smaller one, five less than the other
+abbrev pub Shows : Row → Type 0
+Shows gap = Unit {0}
+Shows (row i x y z n (always ts)) = Unit {0}
+Shows (row i x y z n (conditional met unmet)) = total unmet < total (oneFigure (conditional met unmet))
+Shows (row i x y z n (repeating last again)) = total again ≡ total (oneFigure (repeating last again)) + 5
+
+abbrev pub same : List ℕ → List ℕ → Bool
+same [] [] = true
+same [] (u ∷ us) = false
+same (t ∷ ts) [] = false
+same (t ∷ ts) (u ∷ us) = eqb t u && same ts us
+
+-- a row whose HL, H or L is renamed, with its cycles in another order than UM0080's, which has the prefix's [4] in front
+abbrev pub reordered : Row → Bool
+reordered gap = false
+reordered (row i x y z n t) = not (is-at-hl x || is-at-hl y) && ((is-hl x || is-hl y) && not (same (afterFirst (4 ∷ []) (oneFigure t)) (4 ∷ oneFigure t)))
