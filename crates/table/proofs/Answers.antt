@@ -17,8 +17,8 @@ use Rattle.table.specs.Plain.{plain}
 use Rattle.table.specs.Cb.{cb}
 use Rattle.table.specs.Ed.{ed}
 use Rattle.table.specs.Decode.{numberOf, isPrefix, pageRow, rowOf, operandBytes, recordOf, four, neededOf, decodeOf}
-use Rattle.table.specs.Consequences.{Bytes, first, second, Prefixed, Undefined, Alone, lengthOf, Cut, NothingWhen, ShortWhen, LongWhen}
-use Rattle.table.proofs.Upto.{values, agree}
+use Rattle.table.specs.Consequences.{values, Bytes, first, second, Prefixed, Undefined, Alone, lengthOf, Cut, NothingWhen, ShortWhen, LongWhen}
+use Rattle.table.proofs.Upto.{agree}
 use Rattle.table.proofs.Pages.{every, at-code}
 use Rattle.table.proofs.Done.{verdict}
 use Rattle.table.proofs.Sizes.{needed-at-most}

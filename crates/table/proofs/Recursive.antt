@@ -19,9 +19,9 @@ use Rattle.table.specs.Plain.{plain}
 use Rattle.table.specs.Ed.{ed}
 use Rattle.table.specs.Prefix.{prefixRow, behindRow}
 use Rattle.table.specs.Decode.{isPrefix, pageRow, rowOf, operandBytes, recordOf, four, neededOf, refused, done, decodeOf}
-use Rattle.table.specs.Consequences.{Bytes, first}
+use Rattle.table.specs.Consequences.{values, Bytes, first}
 use Rattle.table.specs.Steps.{behind, named, step, reading}
-use Rattle.table.proofs.Upto.{values, agree}
+use Rattle.table.proofs.Upto.{agree}
 use Rattle.table.proofs.Done.{verdict}
 use Rattle.table.proofs.Answers.{page-row}
 

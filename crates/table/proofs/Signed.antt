@@ -4,8 +4,8 @@ use mathlib.Core.Path.{_≡_, refl}
 use Prim.Native.Nat.{ℕ, _-_, _<_}
 use lib.IntN.{pos}
 use Rattle.table.specs.Signed.{signedOf, relativeOf}
-use Rattle.table.specs.Consequences.{displacement, relative}
-use Rattle.table.proofs.Upto.{values, agree}
+use Rattle.table.specs.Consequences.{values, displacement, relative}
+use Rattle.table.proofs.Upto.{agree}
 
 displacement-all : values signedOf 0 256 ≡ values displacement 0 256
 unfolding signedOf

@@ -1,5 +1,5 @@
 -- The words in which the theorems about the table are stated. Definitions only.
-use Prim.Native.Nat.{ℕ, _+_, _-_, _<_, _≤_}
+use Prim.Native.Nat.{ℕ, zero, suc, _+_, _-_, _<_, _≤_}
 use mathlib.Core.Path.{_≡_}
 use mathlib.Core.Logic.{_⊎_}
 use mathlib.Core.Bool.{Bool, true, false, cond, not, _&&_, _||_}
@@ -14,6 +14,11 @@ use Rattle.table.specs.Departures.{oneFigure, afterFirst}
 use Rattle.table.specs.Ed.{ed}
 use Rattle.table.specs.Prefix.{is-hl}
 use Rattle.table.specs.Decode.{pageRow}
+
+-- f's values at the n numbers from i
+abbrev pub values : {A : Type 0} → (ℕ → A) → ℕ → ℕ → List A
+values f i zero = []
+values f i (suc n) = f i ∷ values f (suc i) n
 
 -- a list of bytes
 abbrev pub Bytes : List ℕ → Type 0

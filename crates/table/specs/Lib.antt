@@ -9,3 +9,4 @@ pub mod Prefix
 pub mod Decode
 pub mod Consequences
 pub mod Steps
+pub mod Bits
