@@ -1,3 +1,4 @@
+-- `inserted_at` meets its contract: in front of pos, in what is put in, behind it, and past the filled places. Assumes nothing.
 use borrow.Author.Needs.{needs}
 use mathlib.Core.Path.{_≡_, sym, ap, _∙_}
 use Prim.Native.Nat.{ℕ, _-_}

@@ -1,3 +1,4 @@
+-- `removed_at` meets its contract: in front of pos, behind it, and past the filled places. Assumes nothing.
 use borrow.Author.Needs.{needs}
 use mathlib.Core.Path.{_≡_, sym, _∙_}
 use mathlib.Core.List.{[]}

@@ -3,26 +3,17 @@ use borrow.Author.Needs.{needs}
 use Rattle.opcode.proofs.timing.with_removed.Statement.{statement}
 use Rattle.opcode.proofs.timing.with_removed.Tie as tie
 
-removed-at-requires : tie.Need-removed-at-requires
-removed-at-requires c κs = search needs
-
-removed-at-requires-2 : tie.Need-removed-at-requires-2
-removed-at-requires-2 c κs = search needs
-
-removed-at-requires-3 : tie.Need-removed-at-requires-3
-removed-at-requires-3 c κs = search needs
-
-removed-at-requires-4 : tie.Need-removed-at-requires-4
-removed-at-requires-4 c κs = search needs
-
-removed-at-requires-5 : tie.Need-removed-at-requires-5
-removed-at-requires-5 c κs = search needs
-
-removed-at-requires-6 : tie.Need-removed-at-requires-6
-removed-at-requires-6 c κs = search needs
-
 returns : tie.Need-returns
 returns c = rw (c .before .before .before .before .before .removed-at .ensures, c .before .before .before .before .removed-at2 .ensures, c .before .before .before .removed-at3 .ensures, c .before .before .removed-at4 .ensures, c .before .removed-at5 .ensures, c .removed-at6 .ensures)
 
 pub with-removed-spec : {M : Type 1} → statement M
-with-removed-spec = tie.close (tie.spec removed-at-requires removed-at-requires-2 removed-at-requires-3 removed-at-requires-4 removed-at-requires-5 removed-at-requires-6 returns)
+with-removed-spec =
+    tie.close
+    (tie.spec
+    (λ c κs. search needs)
+    (λ c κs. search needs)
+    (λ c κs. search needs)
+    (λ c κs. search needs)
+    (λ c κs. search needs)
+    (λ c κs. search needs)
+    returns)

@@ -1,3 +1,4 @@
+-- `OpCode::tstates_extend` meets its contract: an insertion at the end. Assumes nothing.
 use mathlib.Core.Path.{_∙_}
 use Rattle.opcode.proofs.Laws.{extended}
 use borrow.Author.Needs.{needs}

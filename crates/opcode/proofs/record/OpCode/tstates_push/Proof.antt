@@ -1,3 +1,4 @@
+-- `OpCode::tstates_push` meets its contract: it extends by one place. Assumes nothing.
 use Rattle.opcode.specs.Timing.{extendOf, pushOf}
 use borrow.Author.Needs.{needs}
 use Rattle.opcode.proofs.record.OpCode.tstates_push.Statement.{statement}
