@@ -10,6 +10,7 @@ use lib.Dec.{T, eqb, ltb, ltb→lt}
 use lib.ListN.{length, getD}
 use borrow.Author.Tests.{eqb-true, eqb-false, ltb-true, ltb-false, eq-eqb, ne-eqb, lt-ltb, le-ltb}
 use Rattle.opcode.specs.declared.record.OpCode.{OpCode}
+use Rattle.opcode.specs.Record.{emptyOf}
 use Rattle.table.specs.declared.Answer.{Answer}
 use Rattle.table.specs.Row.{Row, row, gap}
 use Rattle.table.specs.Departures.{needed, neededBehind}
@@ -17,7 +18,7 @@ use Rattle.table.specs.Plain.{plain}
 use Rattle.table.specs.Cb.{cb}
 use Rattle.table.specs.Ed.{ed}
 use Rattle.table.specs.Decode.{numberOf, isPrefix, pageRow, rowOf, operandBytes, recordOf, four, neededOf, decodeOf}
-use Rattle.table.specs.Consequences.{values, Bytes, first, second, Prefixed, Undefined, Alone, lengthOf, Cut, NothingWhen, ShortWhen, LongWhen}
+use Rattle.table.specs.Consequences.{values, Bytes, first, second, Undefined, Alone, lengthOf, Cut, TooFew, NothingWhen, ShortWhen, LongWhen, DoneWhen}
 use Rattle.table.proofs.Upto.{agree}
 use Rattle.table.proofs.Pages.{every, at-code}
 use Rattle.table.proofs.Done.{verdict}
@@ -42,6 +43,12 @@ module _ (r : OpCode) where
   tells-short false true c e = absurd (omega (arith, ap numberOf e))
   tells-short false false true e = (refl, refl, refl)
   tells-short false false false e = absurd (omega (arith, ap numberOf e))
+
+  tells-refused : (a b c : Bool) → (verdict a b c r .answer ≡ Answer.Done → ⊥) → verdict a b c r .rec ≡ emptyOf
+  tells-refused true b c n = refl
+  tells-refused false true c n = refl
+  tells-refused false false true n = refl
+  tells-refused false false false n = absurd (n refl)
 
 either : (a b : Bool) → (a || b) ≡ true → (a ≡ true) ⊎ (b ≡ true)
 either true b e = inl refl
@@ -108,7 +115,7 @@ cut-needed gap n h = absurd (omega arith)
 cut-needed (row i x y z m t) n h = h
 
 module _ (s : List ℕ) (bytes : Bytes s) (some : 1 ≤ length s) (few : length s ≤ 3) where
-  too-few : length s < neededOf s → Prefixed s ⊎ (Undefined s ⊎ (Alone s ⊎ Cut s))
+  too-few : length s < neededOf s → TooFew s
   too-few = by-prefix (isPrefix (first s)) refl
     where
       undefined-or-alone : (first s ≡ 0xED) × (getD ed (second s) gap ≡ gap) → Undefined s ⊎ (Alone s ⊎ Cut s)
@@ -118,7 +125,7 @@ module _ (s : List ℕ) (bytes : Bytes s) (some : 1 ≤ length s) (few : length 
           by-count true q = inl (ltb-true 1 (length s) q, g .0, g .1)
           by-count false q = inr (inl (omega (arith, ltb-false 1 (length s) q), inr (g .0)))
 
-      by-prefix : (b : Bool) → isPrefix (first s) ≡ b → length s < neededBehind b (rowOf s) → Prefixed s ⊎ (Undefined s ⊎ (Alone s ⊎ Cut s))
+      by-prefix : (b : Bool) → isPrefix (first s) ≡ b → length s < neededBehind b (rowOf s) → TooFew s
       by-prefix true q h = inl (prefixed (first s) q)
       by-prefix false q h =
           ⊎-elim
@@ -136,10 +143,10 @@ module _ (s : List ℕ) (bytes : Bytes s) (some : 1 ≤ length s) (few : length 
   by-page (inr (inl (one, inr e))) = rw (e, one) (ltb→lt 1 (needed (getD ed (second s) gap)) (at-code two ed ed-two tt (second s)))
   by-page (inr (inr cut)) = cut-needed (pageRow (first s) (second s)) (length s) cut
 
-  is-few : Prefixed s ⊎ (Undefined s ⊎ (Alone s ⊎ Cut s)) → length s < neededOf s
+  is-few : TooFew s → length s < neededOf s
   is-few = by-prefix (isPrefix (first s)) refl
     where
-      by-prefix : (b : Bool) → isPrefix (first s) ≡ b → Prefixed s ⊎ (Undefined s ⊎ (Alone s ⊎ Cut s)) → length s < neededOf s
+      by-prefix : (b : Bool) → isPrefix (first s) ≡ b → TooFew s → length s < neededOf s
       by-prefix true q w = rw q (omega arith)
       by-prefix false q (inl p) = absurd (true≢false (sym (is-prefixed (first s) p) ∙ q))
       by-prefix false q (inr w) = rw (page-needed q) (by-page w)
@@ -160,6 +167,11 @@ module _ (s : List ℕ) where
   by-tests : decodeOf s .answer ≡ verdict none over under found .answer
   unfolding decodeOf
   by-tests = refl
+
+  -- a refused decode returns the empty record
+  pub refused-empty : (decodeOf s .answer ≡ Answer.Done → ⊥) → decodeOf s .rec ≡ emptyOf
+  unfolding decodeOf
+  refused-empty n = tells-refused found none over under n
 
   -- 1, Nothing: no bytes
   pub nothing-exactly : (decodeOf s .answer ≡ Answer.Nothing) ↔ NothingWhen s
@@ -194,21 +206,21 @@ module _ (s : List ℕ) where
           ∙ rw (ne-eqb (length s) 0 (λ e. omega arith), le-ltb 4 (length s) (omega arith), lt-ltb (length s) (neededOf s) (is-few s bytes some few why))
 
   -- 0, Done: otherwise
-  pub done-exactly : Bytes s → (decodeOf s .answer ≡ Answer.Done) ↔ ((NothingWhen s → ⊥) × (ShortWhen s → ⊥) × (LongWhen s → ⊥))
+  pub done-exactly : Bytes s → (decodeOf s .answer ≡ Answer.Done) ↔ DoneWhen s
   done-exactly bytes = (to, from)
     where
-      to : decodeOf s .answer ≡ Answer.Done → (NothingWhen s → ⊥) × (ShortWhen s → ⊥) × (LongWhen s → ⊥)
+      to : decodeOf s .answer ≡ Answer.Done → DoneWhen s
       to e = (
         λ w. omega (arith, ap numberOf (sym (nothing-exactly .1 w) ∙ e)),
         λ w. omega (arith, ap numberOf (sym (short-exactly bytes .1 w) ∙ e)),
         λ w. omega (arith, ap numberOf (sym (long-exactly .1 w) ∙ e)),
       )
 
-      by-answer : (a : Answer) → decodeOf s .answer ≡ a → (NothingWhen s → ⊥) × (ShortWhen s → ⊥) × (LongWhen s → ⊥) → decodeOf s .answer ≡ Answer.Done
+      by-answer : (a : Answer) → decodeOf s .answer ≡ a → DoneWhen s → decodeOf s .answer ≡ Answer.Done
       by-answer Answer.Done e w = e
       by-answer Answer.Nothing e w = absurd (w .0 (nothing-exactly .0 e))
       by-answer Answer.Short e w = absurd (w .1 (short-exactly bytes .0 e))
       by-answer Answer.Long e w = absurd (w .2 (long-exactly .0 e))
 
-      from : (NothingWhen s → ⊥) × (ShortWhen s → ⊥) × (LongWhen s → ⊥) → decodeOf s .answer ≡ Answer.Done
+      from : DoneWhen s → decodeOf s .answer ≡ Answer.Done
       from = by-answer (decodeOf s .answer) refl

@@ -17,7 +17,7 @@ use Rattle.table.specs.Plain.{plain}
 use Rattle.table.specs.Cb.{cb}
 use Rattle.table.specs.Ed.{ed}
 use Rattle.table.specs.Decode.{isPrefix, pageRow, rowOf, operandBytes, recordOf, four, neededOf, done, decodeOf}
-use Rattle.table.specs.Consequences.{first, second, withData}
+use Rattle.table.specs.Consequences.{first, second, withData, Stays}
 use Rattle.table.proofs.Pages.{both-left, both-right, every, at-code}
 use Rattle.table.proofs.Done.{Decides, decides, decided}
 use Rattle.table.proofs.Answers.{page-row}
@@ -115,7 +115,7 @@ module _ (s t : List ℕ) (e : decodeOf s .answer ≡ Answer.Done) (few : length
   -- the same row over the same bytes behind its code
   settled :
       (c : ℕ) (x : Row) → T (inside c x) → rowOf s ≡ x → rowOf (s ++ t) ≡ x → operandBytes s ≡ drop c s → operandBytes (s ++ t) ≡ drop c (s ++ t)
-      → decodeOf (s ++ t) ≡ done (withData (decodeOf s .rec) (four (s ++ t)))
+      → Stays s t
   settled c x inner r r′ o o′ =
       let enough : needed x ≤ length s = subst (λ (y : Row). needed y ≤ length s) (sym (page-row s no-prefix) ∙ r) page-enough in
       let longer : length s ≤ length (s ++ t) = omega (arith, length-append s t) in
@@ -127,7 +127,7 @@ module _ (s t : List ℕ) (e : decodeOf s .answer ≡ Answer.Done) (few : length
   -- a code of two bytes: both are there, so the second is the same too
   two-bytes :
       (page : List Row) → T (every (inside 2) page) → ((y : ℕ) → pageRow (first s) y ≡ getD page y gap) → (eqb (first s) 0xCB || eqb (first s) 0xED) ≡ true
-      → decodeOf (s ++ t) ≡ done (withData (decodeOf s .rec) (four (s ++ t)))
+      → Stays s t
   two-bytes page all here long =
       let inner = at-code (inside 2) page all tt (second s) in
       let both : 2 ≤ length s = code-there s t 2 (getD page (second s) gap) (length s) (omega arith) inner (subst (λ (x : Row). needed x ≤ length s) (here (second s)) page-enough) in
@@ -137,7 +137,7 @@ module _ (s t : List ℕ) (e : decodeOf s .answer ≡ Answer.Done) (few : length
       (rw (no-prefix, long))
       (rw (same-first, no-prefix, long))
 
-  by-page : (a b : Bool) → eqb (first s) 0xCB ≡ a → eqb (first s) 0xED ≡ b → decodeOf (s ++ t) ≡ done (withData (decodeOf s .rec) (four (s ++ t)))
+  by-page : (a b : Bool) → eqb (first s) 0xCB ≡ a → eqb (first s) 0xED ≡ b → Stays s t
   unfolding pageRow
   by-page true b p q = two-bytes cb cb-inside (λ y. rw p) (rw p)
   by-page false true p q = two-bytes ed ed-inside (λ y. rw (p, q)) (rw (p, q))
@@ -148,5 +148,5 @@ module _ (s t : List ℕ) (e : decodeOf s .answer ≡ Answer.Done) (few : length
       (rw (no-prefix, p, q))
       (rw (same-first, no-prefix, p, q))
 
-  pub stays : decodeOf (s ++ t) ≡ done (withData (decodeOf s .rec) (four (s ++ t)))
+  pub stays : Stays s t
   stays = by-page (eqb (first s) 0xCB) (eqb (first s) 0xED) refl refl

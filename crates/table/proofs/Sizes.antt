@@ -38,6 +38,9 @@ abbrev sized : Row → Bool
 sized gap = true
 sized (row i x y z n t) = leb 1 n && (leb n 4 && timed (oneFigure t))
 
+abbrev Sized : Row → Type 0
+Sized x = T (sized x)
+
 plain-sized : T (every sized plain)
 unfolding plain
 plain-sized = tt
@@ -60,12 +63,9 @@ unfolding ed
 behind-ed-sized ix = tt
 behind-ed-sized iy = tt
 
-bit-sized : (i : Index) (c : ℕ) (x : Row) → T (sized (bitRow i c x))
+bit-sized : (i : Index) (c : ℕ) (x : Row) → Sized (bitRow i c x)
 bit-sized i c gap = tt
-bit-sized i c (row ins x y z n t) = chosen (λ (x : Row). T (sized x)) (ltb c 0x40) _ _ tt (chosen (λ (x : Row). T (sized x)) (ltb c 0x80) _ _ tt tt)
-
-abbrev Sized : Row → Type 0
-Sized x = T (sized x)
+bit-sized i c (row ins x y z n t) = chosen Sized (ltb c 0x40) _ _ tt (chosen Sized (ltb c 0x80) _ _ tt tt)
 
 behind-sized : (i : Index) (b1 b2 b3 : ℕ) → Sized (behindRow i b1 b2 b3)
 unfolding behindRow

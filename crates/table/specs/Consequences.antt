@@ -3,7 +3,7 @@ use Prim.Native.Nat.{ℕ, zero, suc, _+_, _-_, _<_, _≤_}
 use mathlib.Core.Path.{_≡_}
 use mathlib.Core.Logic.{_⊎_}
 use mathlib.Core.Bool.{Bool, true, false, cond, not, _&&_, _||_}
-use mathlib.Core.List.{List, [], _∷_}
+use mathlib.Core.List.{List, [], _∷_, _++_}
 use lib.Dec.{eqb, ltb}
 use lib.IntN.{ℤ, pos, negsuc}
 use lib.ListN.{length, getD}
@@ -13,7 +13,7 @@ use Rattle.table.specs.Row.{always, conditional, repeating, Row, row, ga
 use Rattle.table.specs.Departures.{oneFigure, afterFirst}
 use Rattle.table.specs.Ed.{ed}
 use Rattle.table.specs.Prefix.{is-hl}
-use Rattle.table.specs.Decode.{pageRow}
+use Rattle.table.specs.Decode.{pageRow, four, done, decodeOf}
 
 -- f's values at the n numbers from i
 abbrev pub values : {A : Type 0} → (ℕ → A) → ℕ → ℕ → List A
@@ -50,17 +50,25 @@ lengthOf (row i x y z n t) = n
 abbrev pub Cut : List ℕ → Type 0
 Cut s = length s < lengthOf (pageRow (first s) (second s))
 
+-- too few to decide the row
+abbrev pub TooFew : List ℕ → Type 0
+TooFew s = Prefixed s ⊎ (Undefined s ⊎ (Alone s ⊎ Cut s))
+
 -- 1, Nothing: no bytes
 abbrev pub NothingWhen : List ℕ → Type 0
 NothingWhen s = length s ≡ 0
 
 -- 2, Short: one to three bytes, fewer than the row's length, or fewer than four where the first is DD or FD or the code is an undefined ED one
 abbrev pub ShortWhen : List ℕ → Type 0
-ShortWhen s = (1 ≤ length s) × (length s ≤ 3) × (Prefixed s ⊎ (Undefined s ⊎ (Alone s ⊎ Cut s)))
+ShortWhen s = (1 ≤ length s) × (length s ≤ 3) × TooFew s
 
 -- 3, Long: over four bytes
 abbrev pub LongWhen : List ℕ → Type 0
 LongWhen s = 4 < length s
+
+-- 0, Done: otherwise
+abbrev pub DoneWhen : List ℕ → Type 0
+DoneWhen s = (NothingWhen s → ⊥) × (ShortWhen s → ⊥) × (LongWhen s → ⊥)
 
 -- what a decoded record of n given bytes keeps to: its length, its machine cycles m, the first m of six T-state places filled and the rest zero, its row time
 pub record Keeps (n : ℕ) (o : OpCode) : Type 0 where
@@ -88,6 +96,10 @@ withData o d =
       tstates = o .tstates;
       mcycles = o .mcycles;
     }
+
+-- bytes t added to s change nothing of what s decodes to but the data
+abbrev pub Stays : List ℕ → List ℕ → Type 0
+Stays s t = decodeOf (s ++ t) ≡ done (withData (decodeOf s .rec) (four (s ++ t)))
 
 -- displacements: 0 to 127, then -128 to -1; `negsuc n` is -(n + 1)
 abbrev pub displacement : ℕ → ℤ
