@@ -16,7 +16,7 @@ use Rattle.opcode.specs.Record.{unfilled, sum}
 use Rattle.opcode.specs.Timing.{inserted, removed, mayInsert, mayExtend, mayRemove, insertOf, extendOf, listed}
 
 -- past the first of two lists
-pub past : (xs ys : List TStates) (k : ℕ) → length xs ≤ k → getD (xs ++ ys) k unfilled ≡ getD ys (k - length xs) unfilled
+past : (xs ys : List TStates) (k : ℕ) → length xs ≤ k → getD (xs ++ ys) k unfilled ≡ getD ys (k - length xs) unfilled
 past xs ys k h = let e : k ≡ length xs + (k - length xs) = omega arith in ap (λ (j : ℕ). getD (xs ++ ys) j unfilled) e ∙ getD-append-add xs ys (k - length xs) unfilled
 
 module _ (l s : List TStates) (pos k : ℕ) (fits : pos ≤ length l) where
@@ -58,7 +58,7 @@ pub blank : (m : ℕ) (t : List TStates) (k : ℕ) → m ≤ length t → m ≤ 
 blank m t k h g = List·getD-eq-default (take m t) unfilled (omega (arith, length-take-le m t h))
 
 -- put in at the end: appended
-pub ins-end : (m : ℕ) (t s : List TStates) → inserted (take m t) m s ≡ take m t ++ s
+ins-end : (m : ℕ) (t s : List TStates) → inserted (take m t) m s ≡ take m t ++ s
 unfolding inserted
 ins-end m t s =
     let h : length (take m t) ≤ m = rw (length-take m t) (min-le-left m (length t)) in

@@ -18,7 +18,7 @@ use Rattle.table.specs.Plain.{plain}
 use Rattle.table.specs.Cb.{cb}
 use Rattle.table.specs.Ed.{ed}
 use Rattle.table.specs.Decode.{numberOf, isPrefix, pageRow, rowOf, operandBytes, recordOf, four, neededOf, decodeOf}
-use Rattle.table.specs.Consequences.{values, Bytes, first, second, Undefined, Alone, lengthOf, Cut, TooFew, NothingWhen, ShortWhen, LongWhen, DoneWhen}
+use Rattle.table.specs.Consequences.{values, AllBytes, first, second, Undefined, Alone, lengthOf, Cut, TooFew, NothingWhen, ShortWhen, LongWhen, DoneWhen}
 use Rattle.table.proofs.Upto.{agree}
 use Rattle.table.proofs.Pages.{every, at-code}
 use Rattle.table.proofs.Done.{verdict}
@@ -114,7 +114,7 @@ cut-needed : (x : Row) (n : ℕ) → n < lengthOf x → n < needed x
 cut-needed gap n h = absurd (omega arith)
 cut-needed (row i x y z m t) n h = h
 
-module _ (s : List ℕ) (bytes : Bytes s) (some : 1 ≤ length s) (few : length s ≤ 3) where
+module _ (s : List ℕ) (bytes : AllBytes s) (some : 1 ≤ length s) (few : length s ≤ 3) where
   too-few : length s < neededOf s → TooFew s
   too-few = by-prefix (isPrefix (first s)) refl
     where
@@ -188,7 +188,7 @@ module _ (s : List ℕ) where
   )
 
   -- 2, Short: one to three bytes that decide no row
-  pub short-exactly : Bytes s → (decodeOf s .answer ≡ Answer.Short) ↔ ShortWhen s
+  pub short-exactly : AllBytes s → (decodeOf s .answer ≡ Answer.Short) ↔ ShortWhen s
   short-exactly bytes = (to, from)
     where
       to : decodeOf s .answer ≡ Answer.Short → ShortWhen s
@@ -206,7 +206,7 @@ module _ (s : List ℕ) where
           ∙ rw (ne-eqb (length s) 0 (λ e. omega arith), le-ltb 4 (length s) (omega arith), lt-ltb (length s) (neededOf s) (is-few s bytes some few why))
 
   -- 0, Done: otherwise
-  pub done-exactly : Bytes s → (decodeOf s .answer ≡ Answer.Done) ↔ DoneWhen s
+  pub done-exactly : AllBytes s → (decodeOf s .answer ≡ Answer.Done) ↔ DoneWhen s
   done-exactly bytes = (to, from)
     where
       to : decodeOf s .answer ≡ Answer.Done → DoneWhen s

@@ -15,10 +15,6 @@ pub both-right : (a b : Bool) → T (a && b) → T b
 both-right true b t = t
 both-right false b t = absurd t
 
-pub both : (a b : Bool) → T a → T b → T (a && b)
-both true b s t = t
-both false b s t = s
-
 abbrev pub every : (Row → Bool) → List Row → Bool
 every p [] = true
 every p (x ∷ xs) = p x && every p xs

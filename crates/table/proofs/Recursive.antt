@@ -19,7 +19,7 @@ use Rattle.table.specs.Plain.{plain}
 use Rattle.table.specs.Ed.{ed}
 use Rattle.table.specs.Prefix.{prefixRow, behindRow}
 use Rattle.table.specs.Decode.{isPrefix, pageRow, rowOf, operandBytes, recordOf, four, neededOf, refused, done, decodeOf}
-use Rattle.table.specs.Consequences.{values, Bytes, first}
+use Rattle.table.specs.Consequences.{values, AllBytes, first}
 use Rattle.table.specs.Steps.{behind, named, step, reading}
 use Rattle.table.proofs.Upto.{agree}
 use Rattle.table.proofs.Done.{verdict}
@@ -100,7 +100,7 @@ prefix-row b0 b1 b2 b3 = by-tests (eqb b0 0xDD) (eqb b0 0xFD)
     by-tests false false q = absurd (true≢false (sym q))
 
 -- a prefix in front: four bytes, or too few
-prefix-agrees : (k : ℕ) (s d : List ℕ) → Bytes s → length s ≤ 4 → isPrefix (first s) ≡ true → step (reading k (drop 1 s) d) s d ≡ tabled s d
+prefix-agrees : (k : ℕ) (s d : List ℕ) → AllBytes s → length s ≤ 4 → isPrefix (first s) ≡ true → step (reading k (drop 1 s) d) s d ≡ tabled s d
 unfolding step
 prefix-agrees k [] d bytes most q = refl
 prefix-agrees k (b0 ∷ []) d bytes most q = rw q
@@ -114,7 +114,7 @@ prefix-agrees k (b0 ∷ b1 ∷ b2 ∷ b3 ∷ []) d bytes most q =
 prefix-agrees k (b0 ∷ b1 ∷ b2 ∷ b3 ∷ b4 ∷ s) d bytes most q = absurd (omega arith)
 
 -- on up to four bytes the steps give what the table says, however many are allowed
-pub steps-agree : (k : ℕ) (s : List ℕ) → Bytes s → length s ≤ 4 → reading (suc k) s (four s) ≡ decodeOf s
+pub steps-agree : (k : ℕ) (s : List ℕ) → AllBytes s → length s ≤ 4 → reading (suc k) s (four s) ≡ decodeOf s
 unfolding reading decodeOf
 steps-agree k s bytes most = by-prefix (isPrefix (first s)) refl
   where

@@ -83,7 +83,7 @@ page-sized b0 b1 =
     chosen Sized (eqb b0 0xCB) _ _ (at-code sized cb cb-sized tt b1)
     (chosen Sized (eqb b0 0xED) _ _ (at-code sized ed ed-sized tt b1) (at-code sized plain plain-sized tt b0))
 
-pub row-sized : (s : List ℕ) → Sized (rowOf s)
+row-sized : (s : List ℕ) → Sized (rowOf s)
 unfolding rowOf
 row-sized s =
     chosen Sized (eqb (getD s 0 0) 0xDD) _ _ (behind-sized ix (getD s 1 0) (getD s 2 0) (getD s 3 0))

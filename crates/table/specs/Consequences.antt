@@ -21,8 +21,8 @@ values f i zero = []
 values f i (suc n) = f i ∷ values f (suc i) n
 
 -- a list of bytes
-abbrev pub Bytes : List ℕ → Type 0
-Bytes s = (k : ℕ) → getD s k 0 < 256
+abbrev pub AllBytes : List ℕ → Type 0
+AllBytes s = (k : ℕ) → getD s k 0 < 256
 
 abbrev pub first : List ℕ → ℕ
 first s = getD s 0 0
