@@ -117,23 +117,23 @@ impl OpCode {
     pub fn tstates_insert(self, pos: usize, more: Timing) -> Edited
         ensures { λ r. ⌜ r ≡ insertOf self pos more ⌝ }
     {
-        let c = self.mcycles;
-        let d = more.mcycles;
-        let m = c.0 as usize;
-        let n = d.0 as usize;
+        let held = self.mcycles;
+        let added = more.mcycles;
+        let m = held.0 as usize;
+        let n = added.0 as usize;
         if !may_insert(m, pos, n) {
             return Edited {
                 ok: false,
                 rec: self,
             };
         }
-        let t = self.tstates;
-        let s = more.tstates;
-        let u = with_inserted(t, m, pos, s, n);
-        let e = MCycles((m + n) as u8);
+        let old = self.tstates;
+        let new = more.tstates;
+        let places = with_inserted(old, m, pos, new, n);
+        let count = MCycles((m + n) as u8);
         let mut next = self;
-        next.tstates = u;
-        next.mcycles = e;
+        next.tstates = places;
+        next.mcycles = count;
         Edited {
             ok: true,
             rec: next,
@@ -144,8 +144,8 @@ impl OpCode {
     pub fn tstates_extend(self, more: Timing) -> Edited
         ensures { λ r. ⌜ r ≡ extendOf self more ⌝ }
     {
-        let c = self.mcycles;
-        let m = c.0 as usize;
+        let held = self.mcycles;
+        let m = held.0 as usize;
         self.tstates_insert(m, more)
     }
 
@@ -153,9 +153,9 @@ impl OpCode {
     pub fn tstates_push(self, t: TStates) -> Edited
         ensures { λ r. ⌜ r ≡ pushOf self t ⌝ }
     {
-        let z = TStates(0);
+        let none = TStates(0);
         let more = Timing {
-            tstates: [t, z, z, z, z, z],
+            tstates: [t, none, none, none, none, none],
             mcycles: MCycles(1),
         };
         self.tstates_extend(more)
@@ -165,20 +165,20 @@ impl OpCode {
     pub fn tstates_remove(self, pos: usize) -> Edited
         ensures { λ r. ⌜ r ≡ removeOf self pos ⌝ }
     {
-        let c = self.mcycles;
-        let m = c.0 as usize;
+        let held = self.mcycles;
+        let m = held.0 as usize;
         if !may_remove(m, pos) {
             return Edited {
                 ok: false,
                 rec: self,
             };
         }
-        let t = self.tstates;
-        let u = with_removed(t, m, pos);
-        let e = MCycles((m - 1) as u8);
+        let old = self.tstates;
+        let places = with_removed(old, m, pos);
+        let count = MCycles((m - 1) as u8);
         let mut next = self;
-        next.tstates = u;
-        next.mcycles = e;
+        next.tstates = places;
+        next.mcycles = count;
         Edited {
             ok: true,
             rec: next,
