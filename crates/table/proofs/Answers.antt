@@ -21,34 +21,8 @@ use Rattle.table.specs.Decode.{numberOf, isPrefix, pageRow, rowOf, opera
 use Rattle.table.specs.Consequences.{values, AllBytes, first, second, Undefined, Alone, lengthOf, Cut, TooFew, NothingWhen, ShortWhen, LongWhen, DoneWhen}
 use Rattle.table.proofs.Upto.{agree}
 use Rattle.table.proofs.Pages.{every, at-code}
-use Rattle.table.proofs.Done.{verdict}
+use Rattle.table.proofs.Done.{verdict, tells-nothing, tells-long, tells-short, tells-refused}
 use Rattle.table.proofs.Sizes.{needed-at-most}
-
--- what the three tests of `verdict` say of its answer
-module _ (r : OpCode) where
-  tells-nothing : (a b c : Bool) → verdict a b c r .answer ≡ Answer.Nothing → a ≡ true
-  tells-nothing true b c e = refl
-  tells-nothing false true c e = absurd (omega (arith, ap numberOf e))
-  tells-nothing false false true e = absurd (omega (arith, ap numberOf e))
-  tells-nothing false false false e = absurd (omega (arith, ap numberOf e))
-
-  tells-long : (a b c : Bool) → verdict a b c r .answer ≡ Answer.Long → b ≡ true
-  tells-long true b c e = absurd (omega (arith, ap numberOf e))
-  tells-long false true c e = refl
-  tells-long false false true e = absurd (omega (arith, ap numberOf e))
-  tells-long false false false e = absurd (omega (arith, ap numberOf e))
-
-  tells-short : (a b c : Bool) → verdict a b c r .answer ≡ Answer.Short → (a ≡ false) × (b ≡ false) × (c ≡ true)
-  tells-short true b c e = absurd (omega (arith, ap numberOf e))
-  tells-short false true c e = absurd (omega (arith, ap numberOf e))
-  tells-short false false true e = (refl, refl, refl)
-  tells-short false false false e = absurd (omega (arith, ap numberOf e))
-
-  tells-refused : (a b c : Bool) → (verdict a b c r .answer ≡ Answer.Done → ⊥) → verdict a b c r .rec ≡ emptyOf
-  tells-refused true b c n = refl
-  tells-refused false true c n = refl
-  tells-refused false false true n = refl
-  tells-refused false false false n = absurd (n refl)
 
 either : (a b : Bool) → (a || b) ≡ true → (a ≡ true) ⊎ (b ≡ true)
 either true b e = inl refl

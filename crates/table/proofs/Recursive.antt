@@ -39,7 +39,7 @@ other : (b : Bool) (x y : OpCode) → b ≡ false → cond b emptyOf x ≡ cond 
 other true x y q e = absurd (true≢false q)
 other false x y q e = e
 
--- an ED row behind the prefix, line by line of the page
+-- behind the prefix: the ED page line by line, and every other byte code by code
 module _ (b2 b3 : ℕ) (d : List ℕ) where
   abbrev rest : ℕ → Decoded
   rest b1 = step (refused Answer.Short) (b1 ∷ b2 ∷ b3 ∷ []) d
@@ -52,7 +52,6 @@ module _ (b2 b3 : ℕ) (d : List ℕ) where
   ed-lines ix = refl
   ed-lines iy = refl
 
-  -- any other byte behind the prefix
   plain-lines :
       (i : Index) → values (λ (b1 : ℕ). cond (eqb b1 0xED) emptyOf (behind (rest b1) i b1 b2 b3 d)) 0 256
       ≡ values (λ (b1 : ℕ). cond (eqb b1 0xED) emptyOf (recordOf (behindRow i b1 b2 b3) (b2 ∷ b3 ∷ []) d)) 0 256
