@@ -1,26 +1,22 @@
 -- A `match` on a number against the choice `sel`: at an arm with several keys, and at the default.
 -- Assumes nothing.
 use mathlib.Core.Bool.{Bool, true, false, cond}
-use mathlib.Core.List.{List, [], _∷_}
-use mathlib.Core.Path.{_≡_, refl, _∙_, sym, subst}
+use mathlib.Core.List.{List, [], _∷_, map}
+use mathlib.Core.Path.{_≡_, refl, ap, _∙_}
 use mathlib.Core.Logic.{inl, inr}
 use Prim.Native.Nat.{ℕ}
 use lib.Dec.{T}
+use lib.ListN.{drop, getD}
 use mir.Val.{hasKey}
 use types.Run.{OneOf, hit}
 use Rattle.stage.specs.Choice.{sel}
 
--- P holds of each key
-abbrev pub Each : (ℕ → Type 0) → List ℕ → Type 0
-Each P [] = Unit {0}
-Each P (k ∷ ks) = P k × Each P ks
-
--- what holds at each key holds at a number that is one of them
-pub by-keys : (P : ℕ → Type 0) (ks : List ℕ) (x : ℕ) → Each P ks → OneOf ks x → P x
-by-keys P [] x each o = absurd o
-by-keys P (k ∷ []) x each o = subst P (sym o) (each .0)
-by-keys P (k ∷ (k′ ∷ ks)) x each (inl e) = subst P (sym e) (each .0)
-by-keys P (k ∷ (k′ ∷ ks)) x each (inr o) = by-keys P (k′ ∷ ks) x (each .1) o
+-- a choice that gives a at each of the keys gives a at a number that is one of them
+pub at-keys : {A : Type 0} (f : ℕ → A) (a : A) (ks : List ℕ) (x : ℕ) → map f ks ≡ map (λ (k : ℕ). a) ks → OneOf ks x → f x ≡ a
+at-keys f a [] x e o = absurd o
+at-keys {A} f a (k ∷ []) x e o = ap f o ∙ ap (λ (l : List A). getD l 0 a) e
+at-keys {A} f a (k ∷ (k′ ∷ ks)) x e (inl o) = ap f o ∙ ap (λ (l : List A). getD l 0 a) e
+at-keys {A} f a (k ∷ (k′ ∷ ks)) x e (inr o) = at-keys f a (k′ ∷ ks) x (ap (λ (l : List A). drop 1 l) e) o
 
 -- what the default of a `match` knows beside N: the number is among the keys of no arm
 abbrev pub Rest : {A : Type 0} → Type 0 → ℕ → List (List ℕ × A) → Type 0

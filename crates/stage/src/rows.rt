@@ -23,7 +23,7 @@ pub fn pass(rec: OpCode) -> Stage
 }
 
 // A row is taken: nothing but the data stays of the record that came in.
-fn row(
+pub fn row(
     rec: OpCode,
     length: u8,
     ins: Instruction,

@@ -22,6 +22,7 @@ use Rattle.table.specs.Decode.{isPrefix, pageRow, rowOf, operandBytes, r
 use Rattle.table.specs.Consequences.{values, AllBytes, first}
 use Rattle.table.specs.Steps.{behind, named, step, reading}
 use Rattle.table.proofs.Upto.{agree}
+use Rattle.table.proofs.Pages.{otherwise}
 use Rattle.table.proofs.Done.{verdict}
 use Rattle.table.proofs.Answers.{page-row}
 
@@ -34,10 +35,6 @@ few-reading : (k : ℕ) (s d : List ℕ) → length s < 4 → reading k s d ≡ 
 unfolding reading
 few-reading zero s d fits = refl
 few-reading (suc k) s d fits = few (reading k (drop 1 s) d) (refused Answer.Short) s d fits
-
-other : (b : Bool) (x y : OpCode) → b ≡ false → cond b emptyOf x ≡ cond b emptyOf y → x ≡ y
-other true x y q e = absurd (true≢false q)
-other false x y q e = e
 
 -- behind the prefix: the ED page line by line, and every other byte code by code
 module _ (b2 b3 : ℕ) (d : List ℕ) where
@@ -73,7 +70,7 @@ module _ (b2 b3 : ℕ) (d : List ℕ) where
       by-ed : (b : Bool) → eqb b1 0xED ≡ b → behind (rest b1) i b1 b2 b3 d ≡ recordOf (behindRow i b1 b2 b3) (b2 ∷ b3 ∷ []) d
       by-ed true q = subst (λ (b : ℕ). behind (rest b) i b b2 b3 d ≡ recordOf (behindRow i b b2 b3) (b2 ∷ b3 ∷ []) d) (sym (eqb-true b1 0xED q)) (ed-agrees i)
       by-ed false q =
-          other (eqb b1 0xED) (behind (rest b1) i b1 b2 b3 d) (recordOf (behindRow i b1 b2 b3) (b2 ∷ b3 ∷ []) d) q
+          otherwise (eqb b1 0xED) emptyOf (behind (rest b1) i b1 b2 b3 d) (recordOf (behindRow i b1 b2 b3) (b2 ∷ b3 ∷ []) d) q
           (agree
           (λ (b : ℕ). cond (eqb b 0xED) emptyOf (behind (rest b) i b b2 b3 d))
           (λ (b : ℕ). cond (eqb b 0xED) emptyOf (recordOf (behindRow i b b2 b3) (b2 ∷ b3 ∷ []) d)) emptyOf 256 (plain-lines i) b1 fits)
