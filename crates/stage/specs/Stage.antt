@@ -19,6 +19,9 @@ places m a b c d e f = record { tstates = states (a ∷ b ∷ c ∷ d ∷ e ∷ 
 abbrev pub passed : OpCode → Stage
 passed o = record { ok = false; rec = o }
 
+abbrev pub taken : OpCode → Stage
+taken o = record { ok = true; rec = o }
+
 abbrev pub took : OpCode → ℕ → Instruction → Place → Place → Place → Timing → Stage
 took o n i x y z t =
     record {
@@ -40,6 +43,10 @@ took o n i x y z t =
 abbrev pub answer : Row → List ℕ → OpCode → Stage
 answer gap s o = passed o
 answer (row i x y z n t) s o = took o n i (read x s) (read y s) (read z s) (timing (oneFigure t))
+
+-- a stage's answer, and where it passes, the next one's
+abbrev pub orNext : Stage → Stage → Stage
+orNext r q = cond (r .ok) r q
 
 -- the row, if it is n bytes long
 abbrev pub ofLength : ℕ → Row → Row

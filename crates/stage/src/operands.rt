@@ -1,12 +1,16 @@
-// Registers, pairs and conditions by the bits of a code.
+// Registers, pairs and conditions by the bits of a code, and (IX+d) by its prefix.
 ghost use mathlib.Core.Path.{_≡_};
 ghost use Rattle.opcode.specs.declared.operand.Place.{Place};
-ghost use Rattle.table.specs.Steps.{isHL, hasAddr};
+ghost use Rattle.table.specs.Row.{indexOf};
+ghost use Rattle.table.specs.Decode.{isPrefix};
+ghost use Rattle.table.specs.Steps.{isHL, hasAddr, named};
 ghost use Rattle.stage.specs.Operands.{ddOf, qqOf, regOf, regIn, regHl, ccOf};
+use super::numbers::signed;
 use opcode::operand::Operand;
 use opcode::registers::FlagCondition;
 use opcode::registers::Reg8;
 use opcode::registers::Reg16;
+use opcode::registers::RegI;
 
 // ss and dd: BC DE HL SP
 pub fn decode_operand_reg_ddss(arg: u8) -> Reg16
@@ -116,4 +120,25 @@ pub fn is_hl_addr(o: Operand) -> bool
         Operand::FlagCondition(_) => false,
         Operand::IgnoreIO => false,
     }
+}
+
+// Is it DD or FD?
+pub fn is_prefix(b: u8) -> bool
+    ensures { λ t. ⌜ t ≡ isPrefix b ⌝ }
+{
+    if b == 0xDD {
+        return true;
+    }
+    b == 0xFD
+}
+
+// (IX+d) behind DD, (IY+d) behind FD
+pub fn index_addr(prefix: u8, d: u8) -> Operand
+    ensures { λ o. ⌜ o ≡ indexOf (named prefix) d ⌝ }
+{
+    let offset = signed(d);
+    if prefix == 0xDD {
+        return Operand::RegI(RegI::IX(offset));
+    }
+    Operand::RegI(RegI::IY(offset))
 }

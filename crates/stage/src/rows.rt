@@ -1,6 +1,7 @@
 // The answer of a stage, and the rows that it takes by their number of operands.
 ghost use mathlib.Core.Path.{_≡_};
 ghost use Rattle.opcode.specs.declared.operand.Place.{Place};
+ghost use Rattle.table.specs.Steps.{changed};
 ghost use Rattle.stage.specs.Stage.{took, passed};
 use opcode::counts::Bytes;
 use opcode::instruction::Instruction;
@@ -99,4 +100,24 @@ pub fn row2(
         Place::Empty,
         t,
     )
+}
+
+// The record with other length, instruction and operands.
+pub fn change(rec: OpCode, length: u8, ins: Instruction, op1: Place, op2: Place) -> OpCode
+    ensures { λ r. ⌜ r ≡ changed rec length ins op1 op2 ⌝ }
+{
+    let op3 = rec.op3;
+    let data = rec.data;
+    let tstates = rec.tstates;
+    let mcycles = rec.mcycles;
+    OpCode {
+        length: Bytes(length),
+        ins,
+        op1,
+        op2,
+        op3,
+        data,
+        tstates,
+        mcycles,
+    }
 }

@@ -32,7 +32,7 @@ neither : (a b : Bool) → (a || b) ≡ false → (a ≡ false) × (b ≡ false)
 neither true b e = absurd (true≢false e)
 neither false b e = (refl, e)
 
-prefixed : (b : ℕ) → isPrefix b ≡ true → (b ≡ 0xDD) ⊎ (b ≡ 0xFD)
+pub prefixed : (b : ℕ) → isPrefix b ≡ true → (b ≡ 0xDD) ⊎ (b ≡ 0xFD)
 prefixed b e = ⊎-elim (λ t. inl (eqb-true b 0xDD t)) (λ t. inr (eqb-true b 0xFD t)) (either (eqb b 0xDD) (eqb b 0xFD) e)
 
 is-prefixed : (b : ℕ) → (b ≡ 0xDD) ⊎ (b ≡ 0xFD) → isPrefix b ≡ true

@@ -1,0 +1,3 @@
+pub mod Agrees
+pub mod Operands
+pub mod Rest

@@ -1,0 +1,14 @@
+-- `replace_hl_addr_op` meets its contract. Assumes nothing.
+use borrow.Author.Needs.{needs}
+use mathlib.Core.Path.{sym, _∙_}
+use Rattle.disas.proofs.index.replace_hl_addr_op.Statement.{statement}
+use Rattle.disas.proofs.index.replace_hl_addr_op.Tie as tie
+
+pub replace-hl-addr-op-spec : {M : Type 1} → statement M
+replace-hl-addr-op-spec =
+    tie.close
+    (tie.spec
+    (λ c κs. search needs)
+    (λ c κs. search needs)
+    (λ c. rw (sym (c .before .before .has-hl-addr .ensures) ∙ c .before .if1 .taken, c .index-addr .ensures))
+    (λ c. search needs))

@@ -1,0 +1,18 @@
+-- `replace_hl_op` meets its contract. Assumes nothing.
+use borrow.Author.Needs.{needs}
+use Rattle.table.specs.Steps.{named}
+use Rattle.disas.proofs.Operands.{kept}
+use Rattle.disas.proofs.index.replace_hl_op.Statement.{statement}
+use Rattle.disas.proofs.index.replace_hl_op.Tie as tie
+
+pub replace-hl-op-spec : {M : Type 1} → statement M
+replace-hl-op-spec =
+    tie.close
+    (tie.spec
+    (λ c. search needs)
+    (λ c κs. search needs)
+    (λ c. search needs)
+    (λ c κs. search needs)
+    (λ c. rw (c .before .before .o .given .1, c .replace-half .ensures))
+    (λ c. rw (c .before .before .o2 .given .1, c .replace-pair .ensures))
+    (λ c. kept (named (c .before .args .prefix)) (c .before .args .o) (c .match .keys3)))

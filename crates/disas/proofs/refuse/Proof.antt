@@ -1,0 +1,11 @@
+-- `refuse` meets its contract. Assumes nothing.
+use borrow.Author.Needs.{needs}
+use Rattle.disas.proofs.refuse.Statement.{statement}
+use Rattle.disas.proofs.refuse.Tie as tie
+
+pub refuse-spec : {M : Type 1} → statement M
+refuse-spec =
+    tie.close
+    (tie.spec
+    (λ c κs. search needs)
+    (λ c. rw (c .new .ensures)))
