@@ -10,6 +10,9 @@ use opcode::counts::TStates;
 use opcode::record::OpCode;
 use operand::place;
 
+// A record's size in bytes.
+pub const SIZE: usize = 22;
+
 // Six T-state places as numbers.
 fn states(t: [TStates; 6]) -> [u8; 6]
     ensures { λ s. ⌜ s ≡ statesOf t ⌝ }
