@@ -14,43 +14,22 @@ type Request = [u8; REQUEST_SIZE];
 /// The ends of the signed byte's two halves, where a lost sign shows.
 const EDGES: [u8; 4] = [0x00, 0x7F, 0x80, 0xFF];
 
-/// An opcode page: its prefix, and the choices of the byte beside the code.
-struct Page {
-    prefix: &'static [u8],
-    edges: &'static [u8],
-    mixed: usize,
-}
-
-const fn page(prefix: &'static [u8], edges: &'static [u8], mixed: usize) -> Page {
-    Page {
-        prefix,
-        edges,
-        mixed,
-    }
-}
-
-const PAGES: [Page; 9] = [
-    page(&[], &EDGES, 0),
-    page(&[0xCB], &EDGES, 0),
-    page(&[0xED], &EDGES, 0),
-    page(&[0xDD], &EDGES, 1),
-    page(&[0xFD], &EDGES, 1),
-    page(&[0xDD, 0xED], &[], 1),
-    page(&[0xFD, 0xED], &[], 1),
-    page(&[0xDD, 0xCB], &[0x00, 0x7F, 0x80], 1),
-    page(&[0xFD, 0xCB], &[0x7F, 0x80, 0xFF], 1),
+/// The opcode pages by their prefixes.
+const PAGES: [&[u8]; 7] = [
+    &[],
+    &[0xCB],
+    &[0xED],
+    &[0xDD],
+    &[0xFD],
+    &[0xDD, 0xCB],
+    &[0xFD, 0xCB],
 ];
 
-impl Page {
-    /// The fixed bytes of a row: DD CB and FD CB have the displacement before the code.
-    fn row(&self, code: u8, beside: u8) -> Vec<u8> {
-        let behind = match self.prefix {
-            [_, 0xCB] => [beside, code],
-            _ => [code, beside],
-        };
-        [self.prefix, &behind].concat()
-    }
-}
+/// The ED page behind DD and FD.
+const ED_BEHIND: [[u8; 2]; 2] = [[0xDD, 0xED], [0xFD, 0xED]];
+
+/// First bytes of the inputs that are too long: no prefix, and each prefix.
+const LONG: [u8; 5] = [0x00, 0xCB, 0xED, 0xDD, 0xFD];
 
 /// The starred rows of document 01, the windows of its starred maps included.
 const STARRED: [&[u8]; 21] = [
@@ -103,16 +82,6 @@ impl Mixed {
         self.0 ^= self.0 << 5;
         (self.0 >> 24) as u8
     }
-
-    /// A byte that is none of the edges, so that it never repeats a row which has one.
-    fn between_edges(&mut self) -> u8 {
-        loop {
-            let byte = self.byte();
-            if !EDGES.contains(&byte) {
-                return byte;
-            }
-        }
-    }
 }
 
 /// The requests in order, none twice, and the source of their mixed bytes.
@@ -130,9 +99,10 @@ impl Requests {
             requests.add(ins);
         }
         requests.add_lengths();
-        for page in &PAGES {
-            requests.add_page(page);
+        for prefix in PAGES {
+            requests.add_page(prefix);
         }
+        requests.add_ed_behind();
         requests.rows
     }
 
@@ -156,12 +126,14 @@ impl Requests {
     fn add_lengths(&mut self) {
         self.add(&[]);
         for first in 0..=0xFF {
-            for length in [1, 2, 3, 5] {
+            for length in [1, 2, 3] {
                 self.add_filled(&[first], length);
             }
         }
+        for first in LONG {
+            self.add_filled(&[first], 5);
+        }
         for second in 0..=0xFF {
-            self.add(&[0xCB, second]);
             self.add(&[0xED, second]);
             if is_ed_word_row(second) {
                 self.add_filled(&[0xED, second], 3);
@@ -169,16 +141,32 @@ impl Requests {
         }
     }
 
-    /// Every code of a page in four bytes, with each choice of the byte beside it.
-    fn add_page(&mut self, page: &Page) {
+    /// Every code of a page in four bytes, with each edge beside it.
+    fn add_page(&mut self, prefix: &[u8]) {
         for code in 0..=0xFF {
-            for choice in 0..page.edges.len() + page.mixed {
-                let edge = page.edges.get(choice).copied();
-                let beside = edge.unwrap_or_else(|| self.mixed.between_edges());
-                self.add_filled(&page.row(code, beside), 4);
+            for beside in EDGES {
+                self.add_filled(&row(prefix, code, beside), 4);
             }
         }
     }
+
+    /// Every code of the ED page behind DD and FD, once.
+    fn add_ed_behind(&mut self) {
+        for [first, second] in ED_BEHIND {
+            for code in 0..=0xFF {
+                self.add_filled(&[first, second, code], 4);
+            }
+        }
+    }
+}
+
+/// The fixed bytes of a row: DD CB and FD CB have the displacement before the code.
+fn row(prefix: &[u8], code: u8, beside: u8) -> Vec<u8> {
+    let behind = match prefix {
+        [_, 0xCB] => [beside, code],
+        _ => [code, beside],
+    };
+    [prefix, &behind].concat()
 }
 
 /// ED 43 4B 53 5B 63 6B 73 7B: a register pair with (nn).
@@ -204,12 +192,12 @@ fn record_line(request: &Request) -> Vec<u8> {
     text.into_bytes()
 }
 
-/// The two files: name, and the rows that follow one another in it without a gap.
+/// The two files that the program `replay` is run on: name, and the rows that follow one another in it without a gap.
 fn files() -> [(&'static str, Vec<Vec<u8>>); 2] {
     let requests = Requests::all();
     let records = requests.iter().map(record_line).collect();
     let requests = requests.iter().map(|request| request.to_vec()).collect();
-    [("requests", requests), ("records", records)]
+    [("stdin", requests), ("stdout", records)]
 }
 
 /// Writes both files and gives the number of rows.
