@@ -1,4 +1,4 @@
-//! The Rust side: the original decoder and its answers in the project's numbers.
+//! The Rust side: the original decoder, its answers in the project's numbers, and the exported functions held to them.
 
 /// The original, compiled from its unchanged source.
 #[path = "../../docs/src/disas.rs"]
@@ -6,3 +6,7 @@
 pub mod original;
 
 pub mod answer;
+pub mod calls;
+pub mod exported;
+pub mod mixed;
+pub mod outcome;

@@ -118,7 +118,7 @@ conditionOf FlagCondition.PE = 5
 conditionOf FlagCondition.P = 6
 conditionOf FlagCondition.M = 7
 
--- two's complement of a signed number, top being the largest number of the width: 255 or 65535; negsuc n is -1 less n
+-- a signed number in two's complement, top being the largest of the width, 255 or 65535; negsuc n is -(n + 1)
 abbrev pub complementOf : ℕ → ℤ → ℕ
 complementOf top (pos n) = n
 complementOf top (negsuc n) = top - n
@@ -128,6 +128,7 @@ abbrev pub indexOf : RegI → ℕ
 indexOf (RegI.IX d) = complementOf 255 d
 indexOf (RegI.IY d) = 256 + complementOf 255 d
 
+-- an operand's kind, 1 to 12, and its value
 abbrev pub kindOf : Operand → ℕ
 kindOf (Operand.Imm8 n) = 1
 kindOf (Operand.Imm16 n) = 2
@@ -156,10 +157,11 @@ valueOf (Operand.RegIOAddr r) = reg8Of r
 valueOf (Operand.FlagCondition c) = conditionOf c
 valueOf Operand.IgnoreIO = 0
 
--- kind, value low, value high
+-- three bytes: kind, value low, value high
 abbrev pub tripleOf : ℕ → ℕ → List ℕ
 tripleOf k v = k ∷ v % 256 ∷ v / 256 ∷ []
 
+-- an empty place has kind 0
 abbrev pub placeOf : Place → List ℕ
 placeOf Place.Empty = tripleOf 0 0
 placeOf (Place.Of o) = tripleOf (kindOf o) (valueOf o)

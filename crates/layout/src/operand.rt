@@ -8,7 +8,7 @@ use opcode::operand::Operand;
 use opcode::operand::Place;
 use opcode::registers::RegI;
 
-// A displacement in two's complement.
+// A displacement in two's complement: the bits of a number below zero, turned over, are how far it is below -1.
 fn byte_of(d: i8) -> u8
     ensures { λ n. ⌜ n ≡ complementOf 255 d ⌝ }
 {
@@ -28,6 +28,7 @@ fn word_of(e: i16) -> u16
     e as u16
 }
 
+// The displacement low, and high 0 for IX, 1 for IY.
 fn index_value(i: RegI) -> u16
     ensures { λ n. ⌜ n ≡ indexOf i ⌝ }
 {
@@ -75,6 +76,7 @@ fn value(o: Operand) -> u16
     }
 }
 
+// Zeros where the place is empty.
 pub(crate) fn place(p: Place) -> [u8; 3]
     ensures { λ t. ⌜ t ≡ placeOf p ⌝ }
 {

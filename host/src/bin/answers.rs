@@ -1,6 +1,7 @@
 //! Writes the original's stored requests and answers, or holds the stored files to the original.
 
 use host::answer::{answer, Answer};
+use host::mixed::Mixed;
 use std::collections::HashSet;
 use std::fmt::Write;
 use std::path::Path;
@@ -72,18 +73,6 @@ const MISREADINGS: [&[u8]; 12] = [
     &[0xFD, 0x23, 0x00],
 ];
 
-/// Marsaglia's xorshift on 32 bits with a fixed seed: the same mixed bytes everywhere.
-struct Mixed(u32);
-
-impl Mixed {
-    fn byte(&mut self) -> u8 {
-        self.0 ^= self.0 << 13;
-        self.0 ^= self.0 >> 17;
-        self.0 ^= self.0 << 5;
-        (self.0 >> 24) as u8
-    }
-}
-
 /// The requests in order, none twice, and the source of their mixed bytes.
 struct Requests {
     rows: Vec<Request>,
@@ -93,7 +82,7 @@ struct Requests {
 
 impl Requests {
     fn all() -> Vec<Request> {
-        let (rows, seen, mixed) = (Vec::new(), HashSet::new(), Mixed(0x5A80_0080));
+        let (rows, seen, mixed) = (Vec::new(), HashSet::new(), Mixed::new(0x5A80_0080));
         let mut requests = Requests { rows, seen, mixed };
         for ins in STARRED.iter().chain(&MISREADINGS) {
             requests.add(ins);

@@ -1,0 +1,18 @@
+//! Mixed bytes that are the same everywhere.
+
+/// Marsaglia's xorshift on 32 bits.
+pub struct Mixed(u32);
+
+impl Mixed {
+    /// The seed is not zero.
+    pub fn new(seed: u32) -> Mixed {
+        Mixed(seed)
+    }
+
+    pub fn byte(&mut self) -> u8 {
+        self.0 ^= self.0 << 13;
+        self.0 ^= self.0 >> 17;
+        self.0 ^= self.0 << 5;
+        (self.0 >> 24) as u8
+    }
+}
