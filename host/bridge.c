@@ -39,7 +39,8 @@ static int flush(void) {
     return 1;
 }
 
-// The k-th call: an empty slice passes as a null pointer, through which nothing may be read or written.
+// The k-th call, in a buffer filled as by `filled` of src/outcome.rs. An empty slice passes as a null pointer, through which
+// nothing may be read or written.
 static int call(const u8 *ins, usize len, usize room, usize k) {
     if (PIPE - said_end < 1 + LOOKED_AT && !flush()) return 0;
     u8 *number = said + said_end, *lent = number + 1;

@@ -3,7 +3,7 @@
 #[cfg(not(linked))]
 pub use bridge::Exported;
 #[cfg(linked)]
-pub use linked::Exported;
+pub use linked::{z80_record, Exported};
 
 #[cfg(linked)]
 mod linked {
