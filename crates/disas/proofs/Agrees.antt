@@ -30,7 +30,9 @@ use Rattle.table.proofs.Recursive.{steps-agree}
 use Rattle.stage.specs.declared.rows.Stage.{Stage}
 use Rattle.stage.specs.Stage.{passed, taken, answer, orNext}
 use Rattle.four_bytes.specs.Last.{lastOf}
-use Rattle.disas.specs.Chain.{replaced, fromFour, fromThree, fromTwo, chainOf, restOf, prefixOf, decoderOf}
+use Rattle.index.specs.Replaced.{replaced}
+use Rattle.disas.specs.Chain.{fromFour, fromThree, fromTwo, chainOf, restOf, prefixOf, decoderOf}
+use Rattle.disas.proofs.Rest.{rest-within}
 
 -- the record that the decoder starts with
 abbrev pub fresh : List ℕ → OpCode
@@ -138,22 +140,24 @@ module _ (i : Index) (r : Decoded) (d : List ℕ) (b2 b3 : ℕ) where
 
   -- where v tells that the last three bytes decode to a record
   rest-agrees :
-      (v : Bool) → let q : Stage = cond v (taken (r .rec)) (passed (fresh d)) in let p : Stage = cond (q .ok) (replaced i b2 b3 (q .rec)) (passed (fresh d)) in
+      (v : Bool) → (v ≡ true → r .rec .length .0 ≤ 4)
+      → let q : Stage = cond v (taken (r .rec)) (passed (fresh d)) in let p : Stage = cond (q .ok) (replaced i b2 b3 (q .rec)) (passed (fresh d)) in
       orNext p (last false (p .rec)) ≡ taken (cond v (changed i b2 b3 (r .rec)) (asNop (fresh d)))
   unfolding replaced
-  rest-agrees true =
+  rest-agrees true short =
       let o = r .rec in
-      changed-agrees (hasAddr (o .op1) || hasAddr (o .op2)) (hasHl (o .op1) || hasHl (o .op2)) o (withAddr i b2 b3 o) (withHl i o)
-  rest-agrees false = refl
+      rw (le-ltb 4 (o .length .0) (short refl)) (changed-agrees (hasAddr (o .op1) || hasAddr (o .op2)) (hasHl (o .op1) || hasHl (o .op2)) o (withAddr i b2 b3 o) (withHl i o))
+  rest-agrees false short = refl
 
   -- where c and e tell that CB or EB is next
   prefix-tests :
-      (c e : Bool) → let q : Stage = staged r (fresh d) in let p : Stage = cond (not c && not e) (cond (q .ok) (replaced i b2 b3 (q .rec)) (passed (fresh d))) (passed (fresh d)) in
+      (eqb (numberOf (r .answer)) 0 ≡ true → r .rec .length .0 ≤ 4) → (c e : Bool)
+      → let q : Stage = staged r (fresh d) in let p : Stage = cond (not c && not e) (cond (q .ok) (replaced i b2 b3 (q .rec)) (passed (fresh d))) (passed (fresh d)) in
       orNext p (last c (p .rec))
       ≡ taken (cond c (recordOf bits (b2 ∷ b3 ∷ []) d) (cond e (asNop (fresh d)) (cond (eqb (numberOf (r .answer)) 0) (changed i b2 b3 (r .rec)) (asNop (fresh d)))))
-  prefix-tests true e = row-or-nop bits (b2 ∷ b3 ∷ []) d
-  prefix-tests false true = refl
-  prefix-tests false false = rest-agrees (eqb (numberOf (r .answer)) 0)
+  prefix-tests short true e = row-or-nop bits (b2 ∷ b3 ∷ []) d
+  prefix-tests short false true = refl
+  prefix-tests short false false = rest-agrees (eqb (numberOf (r .answer)) 0) short
 
 module _ (b1 b2 b3 : ℕ) (d : List ℕ) (h1 : b1 < 256) (h2 : b2 < 256) where
   abbrev rest : Decoded
@@ -162,16 +166,23 @@ module _ (b1 b2 b3 : ℕ) (d : List ℕ) (h1 : b1 < 256) (h2 : b2 < 256) where
   rest-staged : restOf (b1 ∷ b2 ∷ b3 ∷ []) (fresh d) ≡ staged rest (fresh d)
   rest-staged = three-agrees (passed (fresh d)) (refused Answer.Short) d b1 b2 b3 h1 h2
 
+  rest-short : eqb (numberOf (rest .answer)) 0 ≡ true → rest .rec .length .0 ≤ 4
+  rest-short = by-test (eqb (numberOf (rest .answer)) 0) (rw rest-staged at (rest-within (b1 ∷ b2 ∷ b3 ∷ []) (fresh d) (omega arith)))
+    where
+      by-test : (t : Bool) → let q : Stage = cond t (taken (rest .rec)) (passed (fresh d)) in (q .ok ≡ true → q .rec .length .0 ≤ 4) → t ≡ true → rest .rec .length .0 ≤ 4
+      by-test true short e = short refl
+      by-test false short e = absurd (true≢false (sym e))
+
   abbrev Agrees : ℕ → Type 0
   Agrees b0 = decoderOf (b0 ∷ b1 ∷ b2 ∷ b3 ∷ []) (fresh d) ≡ staged (reading 1 (b0 ∷ b1 ∷ b2 ∷ b3 ∷ []) d) (fresh d)
 
   dd-agrees : Agrees 0xDD
   unfolding plain pageRow reading step chainOf fromTwo fromThree fromFour lastOf prefixOf
-  dd-agrees = rw rest-staged (prefix-tests ix rest d b2 b3 (eqb b1 0xCB) (eqb b1 0xEB))
+  dd-agrees = rw rest-staged (prefix-tests ix rest d b2 b3 rest-short (eqb b1 0xCB) (eqb b1 0xEB))
 
   fd-agrees : Agrees 0xFD
   unfolding plain pageRow reading step chainOf fromTwo fromThree fromFour lastOf prefixOf
-  fd-agrees = rw rest-staged (prefix-tests iy rest d b2 b3 (eqb b1 0xCB) (eqb b1 0xEB))
+  fd-agrees = rw rest-staged (prefix-tests iy rest d b2 b3 rest-short (eqb b1 0xCB) (eqb b1 0xEB))
 
   page-agrees : (b0 : ℕ) → b0 < 256 → isPrefix b0 ≡ false → Agrees b0
   unfolding reading prefixOf

@@ -1,25 +1,19 @@
 -- The stages in their order, as the decoder goes through them. No promise rests on this file: the chain is proved equal to the table. Definitions only.
 use Prim.Native.Nat.{ℕ}
-use mathlib.Core.Bool.{cond, not, _&&_, _||_}
+use mathlib.Core.Bool.{cond, not, _&&_}
 use mathlib.Core.List.{List, [], _∷_}
 use lib.Dec.{eqb, ltb}
 use lib.ListN.{length, drop, getD}
 use Rattle.opcode.specs.declared.record.OpCode.{OpCode}
-use Rattle.table.specs.Row.{Index, gap}
+use Rattle.table.specs.Row.{gap}
 use Rattle.table.specs.Plain.{plain}
 use Rattle.table.specs.Decode.{isPrefix, pageRow, operandBytes}
 use Rattle.table.specs.Consequences.{first, second}
-use Rattle.table.specs.Steps.{hasAddr, hasHl, withAddr, withHl, named}
+use Rattle.table.specs.Steps.{named}
 use Rattle.stage.specs.declared.rows.Stage.{Stage}
-use Rattle.stage.specs.Stage.{passed, taken, answer, ofLength, orNext}
+use Rattle.stage.specs.Stage.{passed, answer, ofLength, orNext}
 use Rattle.four_bytes.specs.Last.{lastOf}
-
--- a record behind a prefix, changed; where nothing is to be changed, it is left as it is
-unfoldable pub replaced : Index → ℕ → ℕ → OpCode → Stage
-replaced i d n o =
-    cond (hasAddr (o .op1) || hasAddr (o .op2)) (taken (withAddr i d n o))
-    (cond (hasHl (o .op1) || hasHl (o .op2)) (taken (withHl i o))
-    (passed o))
+use Rattle.index.specs.Replaced.{replaced}
 
 -- the stages over the bytes s, from those of four bytes on, p being what the prefix step makes of them
 unfoldable pub fromFour : Stage → List ℕ → Stage

@@ -5,6 +5,7 @@ ghost use lib.ListN.{length, drop, getD};
 ghost use Rattle.table.specs.Decode.{four, refused, decodeOf};
 ghost use Rattle.disas.specs.Chain.{restOf, prefixOf, decoderOf};
 use four_bytes::four_bytes;
+use index::replace;
 use one_byte::one_byte;
 use opcode::record::OpCode;
 use stage::operands::is_prefix;
@@ -14,8 +15,6 @@ use table::Answer;
 use table::Decoded;
 use three_bytes::three_bytes;
 use two_bytes::two_bytes;
-
-mod index;
 
 // The row at the front of one to four bytes; a refusal has the empty record.
 pub fn disas(ins: &[u8]) -> Decoded
@@ -138,5 +137,5 @@ fn disas_dd_fd_prefix(ins: &[u8], rec: OpCode) -> Stage
     let ins3 = ins[2];
     let ins4 = ins[3];
     let inner = rest.rec;
-    index::replace(inner, ins1, ins3, ins4)
+    replace(inner, ins1, ins3, ins4)
 }

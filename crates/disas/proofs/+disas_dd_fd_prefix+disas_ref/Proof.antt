@@ -1,24 +1,24 @@
 -- The stages and the prefix step call each other. The stages hand the prefix step all n bytes, and it hands them the last n - 1: the measures are 2n + 1 and 2n.
 -- Assumes nothing.
 use mathlib.Core.Path.{_≡_, sym, _∙_}
-use Prim.Native.Nat.{ℕ, _+_, _<_, _≤_}
+use Prim.Native.Nat.{ℕ, _+_, _<_}
 use native.Mathlib.Omega.{arith}
 use borrow.Author.Needs.{needs}
 use borrow.Author.Tests.{lt-ltb, le-ltb, eq-eqb, ne-eqb, not-true, not-false}
 use borrow.Fn.Kinds.{In}
 use borrow.Fn.PlainCycle.{Measures, is, falls, and}
 use denote.Ref.{now}
-use lib.ListN.{length, drop, length-drop}
+use lib.ListN.{length, drop}
 use Rattle.stage.specs.declared.rows.Stage.{Stage}
 use Rattle.disas.specs.Chain.{fromFour, fromThree, fromTwo, chainOf, restOf, replacedOf, prefixOf, decoderOf}
-use Rattle.disas.proofs.Rest.{part-length, rest-is, rest-within}
+use Rattle.disas.proofs.Rest.{part-length, rest-is}
 use Rattle.disas.proofs.disas_dd_fd_prefix.Reads as prefix
 use Rattle.disas.proofs.disas_dd_fd_prefix.Kinds as prefix-kinds
 use Rattle.disas.proofs.+disas_dd_fd_prefix+disas_ref.Lts-disas_dd_fd_prefix as prefix-lts
 use Rattle.disas.proofs.disas_ref.Reads as stages
 use Rattle.disas.proofs.disas_ref.Kinds as stages-kinds
 use Rattle.disas.proofs.+disas_dd_fd_prefix+disas_ref.Lts-disas_ref as stages-lts
-use Rattle.disas.proofs.index.replace.Reads as replace
+use Rattle.index.proofs.replace.Reads as replace
 use Rattle.four_bytes.proofs.four_bytes.Reads as four-bytes
 use Rattle.one_byte.proofs.one_byte.Reads as one-byte
 use Rattle.stage.proofs.operands.is_prefix.Reads as is-prefix
@@ -67,13 +67,6 @@ rest-told :
     (t : ℕ) (c : prefix-lts.After-disas-ref (prefix-told t) (prefix-at t) prefix.Post)
     → c .disas-ref .result ≡ restOf (drop 1 (now (c .before .before .before .before .before .before .before .before .before .args .ins))) (c .before .before .before .before .before .before .before .before .before .args .rec)
 rest-told t c = let s = c .before .before .before .before .before .before .before .before .before in c .disas-ref .ensures ∙ rest-is (now (s .args .ins)) (s .args .rec) (s .pre .1)
-
-rest-short :
-    (t : ℕ) (c : prefix-lts.After-inner (prefix-told t) (prefix-at t) prefix.Post) → c .before .before .before .before .before .disas-ref .result .rec .length .0 ≤ 4
-rest-short t c =
-    let s = c .before .before .before .before .before .before .before .before .before .before .before .before .before .before in
-    rw (rest-told t (c .before .before .before .before .before))
-    (rest-within (drop 1 (now (s .args .ins))) (s .args .rec) (omega (arith, length-drop 1 (now (s .args .ins)), s .pre .1)) (rw (rest-told t (c .before .before .before .before .before)) at (not-false (c .before .before .before .before .before .disas-ref .result .ok) (c .before .before .before .if4 .left))))
 
 not-prefixed : (t : ℕ) → prefix-lts.Need-returns (prefix-told t) (prefix-at t) prefix.Post
 unfolding prefixOf
@@ -141,7 +134,7 @@ unfolding fromTwo fromThree fromFour
     (λ c. rw (past-tests t (c .before .before .before .before .before), ← rest-told t (c .before .before .before), not-true (c .before .before .before .disas-ref .result .ok) (c .before .if4 .taken)) (c .pass4 .ensures))
     (λ c. search needs)
     (λ c. search needs)
-    (λ c κs. rest-short t c)
+    (λ c κs. search needs)
     (λ c. rw (past-tests t (c .before .before .before .before .before .before .before .before), ← rest-told t (c .before .before .before .before .before .before), not-false (c .before .before .before .before .before .before .disas-ref .result .ok) (c .before .before .before .before .if4 .left)) (c .replace .ensures)))
     (λ t. stages-lts.spec (stages-told t) (stages-at t) stages.Post
     (λ c κs. search needs)

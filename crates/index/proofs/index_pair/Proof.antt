@@ -1,7 +1,7 @@
 -- `index_pair` meets its contract. Assumes nothing.
 use borrow.Author.Tests.{eq-eqb, ne-eqb}
-use Rattle.disas.proofs.index.index_pair.Statement.{statement}
-use Rattle.disas.proofs.index.index_pair.Tie as tie
+use Rattle.index.proofs.index_pair.Statement.{statement}
+use Rattle.index.proofs.index_pair.Tie as tie
 
 pub index-pair-spec : {M : Type 1} → statement M
 index-pair-spec =

@@ -1,4 +1,4 @@
-// What DD and FD make of a record: DD names IX, FD names IY.
+// What DD and FD make of the record of the bytes behind them: DD names IX, FD names IY.
 ghost use mathlib.Core.Path.{_≡_};
 ghost use Prim.Native.Nat.{_≤_};
 ghost use mathlib.Core.Bool.{cond, _||_};
@@ -6,7 +6,7 @@ ghost use Rattle.opcode.specs.declared.operand.Place.{Place};
 ghost use Rattle.table.specs.Families.{high, low};
 ghost use Rattle.table.specs.Prefix.{pair};
 ghost use Rattle.table.specs.Steps.{isHL, hasAddr, half, isHalf, hasHl, replaceHl, isImm8, replaceAddr, withAddr, withHl, named};
-ghost use Rattle.disas.specs.Chain.{replaced};
+ghost use Rattle.index.specs.Replaced.{replaced};
 use opcode::operand::Operand;
 use opcode::operand::Place;
 use opcode::record::OpCode;
@@ -47,6 +47,15 @@ fn has_hl_addr(p: Place) -> bool
         Place::Empty => false,
         Place::Of(o) => is_hl_addr(o),
     }
+}
+
+fn any_hl_addr(op1: Place, op2: Place) -> bool
+    ensures { λ t. ⌜ t ≡ (hasAddr op1 || hasAddr op2) ⌝ }
+{
+    if has_hl_addr(op1) {
+        return true;
+    }
+    has_hl_addr(op2)
 }
 
 fn replace_hl_addr_op(p: Place, prefix: u8, d: u8) -> Place
@@ -106,6 +115,15 @@ fn has_hl(p: Place) -> bool
         Place::Empty => false,
         Place::Of(o) => names_hl(o),
     }
+}
+
+fn any_hl(op1: Place, op2: Place) -> bool
+    ensures { λ t. ⌜ t ≡ (hasHl op1 || hasHl op2) ⌝ }
+{
+    if has_hl(op1) {
+        return true;
+    }
+    has_hl(op2)
 }
 
 // H and L become the index register's halves.
@@ -224,29 +242,24 @@ fn replace_hl(rec: OpCode, prefix: u8) -> OpCode
     longer.rec
 }
 
-fn either(a: bool, b: bool) -> bool
-    ensures { λ t. ⌜ t ≡ (a || b) ⌝ }
-{
-    if a {
-        return true;
-    }
-    b
-}
-
-// The record of the bytes behind the prefix, changed; where nothing is to be changed, it is left as it is and not taken.
+// The record of the bytes behind the prefix, changed. Where nothing is to be changed it is left as it is and not taken, and so is one
+// that no row makes, of more than four bytes.
 pub fn replace(rec: OpCode, prefix: u8, d: u8, n: u8) -> Stage
-    requires { ⌜ rec .length .0 ≤ 4 ⌝ }
     ensures { λ r. ⌜ r ≡ replaced (named prefix) d n rec ⌝ }
 {
+    let length = rec.length;
+    if 4 < length.0 {
+        return pass(rec);
+    }
     let op1 = rec.op1;
     let op2 = rec.op2;
-    if either(has_hl_addr(op1), has_hl_addr(op2)) {
+    if any_hl_addr(op1, op2) {
         return Stage {
             ok: true,
             rec: replace_hl_addr(rec, prefix, d, n),
         };
     }
-    if either(has_hl(op1), has_hl(op2)) {
+    if any_hl(op1, op2) {
         return Stage {
             ok: true,
             rec: replace_hl(rec, prefix),

@@ -2,8 +2,8 @@
 use borrow.Author.Needs.{needs}
 use mathlib.Core.Path.{ap, sym, _∙_}
 use Rattle.opcode.specs.declared.timing.Edited.{Edited}
-use Rattle.disas.proofs.index.replace_hl_addr.Statement.{statement}
-use Rattle.disas.proofs.index.replace_hl_addr.Tie as tie
+use Rattle.index.proofs.replace_hl_addr.Statement.{statement}
+use Rattle.index.proofs.replace_hl_addr.Tie as tie
 
 pub replace-hl-addr-spec : {M : Type 1} → statement M
 replace-hl-addr-spec =

@@ -1,10 +1,10 @@
--- `names_hl` meets its contract. Assumes nothing.
+-- `replace_half` meets its contract. Assumes nothing.
 use borrow.Author.Needs.{needs}
-use Rattle.disas.proofs.index.names_hl.Statement.{statement}
-use Rattle.disas.proofs.index.names_hl.Tie as tie
+use Rattle.index.proofs.replace_half.Statement.{statement}
+use Rattle.index.proofs.replace_half.Tie as tie
 
-pub names-hl-spec : {M : Type 1} → statement M
-names-hl-spec =
+pub replace-half-spec : {M : Type 1} → statement M
+replace-half-spec =
     tie.close
     (tie.spec
     (λ c. search needs)
@@ -13,7 +13,6 @@ names-hl-spec =
     (λ c. search needs)
     (λ c. search needs)
     (λ c. search needs)
-    (λ c. search needs)
     (λ c κs. search needs)
     (λ c. search needs)
     (λ c κs. search needs)
@@ -27,7 +26,10 @@ names-hl-spec =
     (λ c. search needs)
     (λ c. search needs)
     (λ c. search needs)
-    (λ c. rw (c .before .before .o .given .1) (c .is-half .ensures))
+    (λ c. search needs)
+    (λ c. rw (c .before .enum-told6 .given .1) (c .index-high .ensures))
+    (λ c. rw (c .before .enum-told7 .given .1) (c .index-low .ensures))
+    (λ c. search needs)
     (λ c. search needs)
     (λ c. search needs)
     (λ c. search needs)

@@ -1,8 +1,8 @@
 -- `replace_hl_addr_op` meets its contract. Assumes nothing.
 use borrow.Author.Needs.{needs}
 use mathlib.Core.Path.{sym, _∙_}
-use Rattle.disas.proofs.index.replace_hl_addr_op.Statement.{statement}
-use Rattle.disas.proofs.index.replace_hl_addr_op.Tie as tie
+use Rattle.index.proofs.replace_hl_addr_op.Statement.{statement}
+use Rattle.index.proofs.replace_hl_addr_op.Tie as tie
 
 pub replace-hl-addr-op-spec : {M : Type 1} → statement M
 replace-hl-addr-op-spec =

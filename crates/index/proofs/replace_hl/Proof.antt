@@ -2,8 +2,8 @@
 use borrow.Author.Needs.{needs}
 use mathlib.Core.Path.{ap}
 use Rattle.opcode.specs.declared.timing.Edited.{Edited}
-use Rattle.disas.proofs.index.replace_hl.Statement.{statement}
-use Rattle.disas.proofs.index.replace_hl.Tie as tie
+use Rattle.index.proofs.replace_hl.Statement.{statement}
+use Rattle.index.proofs.replace_hl.Tie as tie
 
 pub replace-hl-spec : {M : Type 1} → statement M
 replace-hl-spec =

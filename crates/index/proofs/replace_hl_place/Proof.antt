@@ -1,7 +1,7 @@
 -- `replace_hl_place` meets its contract. Assumes nothing.
 use borrow.Author.Needs.{needs}
-use Rattle.disas.proofs.index.replace_hl_place.Statement.{statement}
-use Rattle.disas.proofs.index.replace_hl_place.Tie as tie
+use Rattle.index.proofs.replace_hl_place.Statement.{statement}
+use Rattle.index.proofs.replace_hl_place.Tie as tie
 
 pub replace-hl-place-spec : {M : Type 1} → statement M
 replace-hl-place-spec =

@@ -1,7 +1,7 @@
 -- `index_low` meets its contract. Assumes nothing.
 use borrow.Author.Tests.{eq-eqb, ne-eqb}
-use Rattle.disas.proofs.index.index_low.Statement.{statement}
-use Rattle.disas.proofs.index.index_low.Tie as tie
+use Rattle.index.proofs.index_low.Statement.{statement}
+use Rattle.index.proofs.index_low.Tie as tie
 
 pub index-low-spec : {M : Type 1} → statement M
 index-low-spec =

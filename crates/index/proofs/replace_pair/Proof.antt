@@ -1,8 +1,8 @@
 -- `replace_pair` meets its contract. Assumes nothing.
 use borrow.Author.Needs.{needs}
 use mathlib.Core.Path.{sym, _∙_}
-use Rattle.disas.proofs.index.replace_pair.Statement.{statement}
-use Rattle.disas.proofs.index.replace_pair.Tie as tie
+use Rattle.index.proofs.replace_pair.Statement.{statement}
+use Rattle.index.proofs.replace_pair.Tie as tie
 
 pub replace-pair-spec : {M : Type 1} → statement M
 replace-pair-spec =

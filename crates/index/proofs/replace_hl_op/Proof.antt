@@ -1,9 +1,9 @@
 -- `replace_hl_op` meets its contract. Assumes nothing.
 use borrow.Author.Needs.{needs}
 use Rattle.table.specs.Steps.{named}
-use Rattle.disas.proofs.Operands.{kept}
-use Rattle.disas.proofs.index.replace_hl_op.Statement.{statement}
-use Rattle.disas.proofs.index.replace_hl_op.Tie as tie
+use Rattle.index.proofs.Operands.{kept}
+use Rattle.index.proofs.replace_hl_op.Statement.{statement}
+use Rattle.index.proofs.replace_hl_op.Tie as tie
 
 pub replace-hl-op-spec : {M : Type 1} → statement M
 replace-hl-op-spec =

@@ -1,7 +1,7 @@
 -- `index_high` meets its contract. Assumes nothing.
 use borrow.Author.Tests.{eq-eqb, ne-eqb}
-use Rattle.disas.proofs.index.index_high.Statement.{statement}
-use Rattle.disas.proofs.index.index_high.Tie as tie
+use Rattle.index.proofs.index_high.Statement.{statement}
+use Rattle.index.proofs.index_high.Tie as tie
 
 pub index-high-spec : {M : Type 1} → statement M
 index-high-spec =
