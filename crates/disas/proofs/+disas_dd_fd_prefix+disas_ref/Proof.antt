@@ -1,6 +1,7 @@
 -- The stages and the prefix step call each other. The stages hand the prefix step all n bytes, and it hands them the last n - 1: the measures are 2n + 1 and 2n.
 -- Assumes nothing.
 use mathlib.Core.Path.{_≡_, sym, _∙_}
+use mathlib.Core.List.{[]}
 use Prim.Native.Nat.{ℕ, _+_, _<_}
 use native.Mathlib.Omega.{arith}
 use borrow.Author.Needs.{needs}
@@ -8,8 +9,12 @@ use borrow.Author.Tests.{lt-ltb, le-ltb, eq-eqb, ne-eqb, not-true, not-false}
 use borrow.Fn.Kinds.{In}
 use borrow.Fn.PlainCycle.{Measures, is, falls, and}
 use denote.Ref.{now}
-use lib.ListN.{length, drop}
+use lib.ListN.{length, drop, getD}
+use Rattle.table.specs.Row.{gap}
+use Rattle.table.specs.Plain.{plain}
+use Rattle.table.specs.Consequences.{first}
 use Rattle.stage.specs.declared.rows.Stage.{Stage}
+use Rattle.stage.specs.Stage.{answer, ofLength}
 use Rattle.disas.specs.Chain.{fromFour, fromThree, fromTwo, chainOf, restOf, replacedOf, prefixOf, decoderOf}
 use Rattle.disas.proofs.Rest.{part-length, rest-is}
 use Rattle.disas.proofs.disas_dd_fd_prefix.Reads as prefix
@@ -84,11 +89,17 @@ eb-behind t c = rw (sym (c .before .before .before .before .before .is-prefix .e
 abbrev handed : {t : ℕ} → stages-lts.Start (stages-told t) (stages-at t) stages.Post → Stage
 handed s = prefixOf (restOf (drop 1 (now (s .args .ins))) (s .args .rec)) (now (s .args .ins)) (s .args .rec)
 
+-- what the first stage is asked of is the first byte
+one-told :
+    (t : ℕ) (c : stages-lts.After-one-byte (stages-told t) (stages-at t) stages.Post)
+    → c .one-byte .result ≡ answer (ofLength 1 (getD plain (first (now (c .before .before .before .before .args .ins))) gap)) [] (c .before .before .before .before .args .rec)
+one-told t c = c .one-byte .ensures
+
 past-one :
     (t : ℕ) (c : stages-lts.Else2 (stages-told t) (stages-at t) stages.Post)
     → decoderOf (now (c .before .before .before .before .before .args .ins)) (c .before .before .before .before .before .args .rec) ≡ fromTwo (handed (c .before .before .before .before .before)) (now (c .before .before .before .before .before .args .ins)) (c .before .before .before .before .before .args .rec)
 unfolding chainOf
-past-one t c = rw (ne-eqb _ _ (c .before .before .before .if1 .left), ← c .before .one-byte .ensures, c .if2 .left)
+past-one t c = rw (ne-eqb _ _ (c .before .before .before .if1 .left), ← one-told t (c .before), c .if2 .left)
 
 past-two :
     (t : ℕ) (c : stages-lts.Else4 (stages-told t) (stages-at t) stages.Post)
@@ -100,7 +111,7 @@ past-three :
     (t : ℕ) (c : stages-lts.Else7 (stages-told t) (stages-at t) stages.Post)
     → decoderOf (now (c .before .before .before .before .before .before .before .before .before .before .before .before .before .before .args .ins)) (c .before .before .before .before .before .before .before .before .before .before .before .before .before .before .args .rec) ≡ fromFour (handed (c .before .before .before .before .before .before .before .before .before .before .before .before .before .before)) (now (c .before .before .before .before .before .before .before .before .before .before .before .before .before .before .args .ins))
 unfolding fromThree
-past-three t c = rw (past-two t (c .before .before .before .before .before), le-ltb _ _ (c .before .before .before .before .if5 .left), ← c .before .before .three-bytes .ensures, c .before .if6 .left, le-ltb _ _ (c .if7 .left))
+past-three t c = rw (past-two t (c .before .before .before .before .before), le-ltb _ _ (c .before .before .before .before .if5 .left), ← c .before .before .three-bytes .ensures, c .before .if6 .left, le-ltb (length (now (c .before .before .before .before .before .before .before .before .before .before .before .before .before .before .args .ins))) 4 (omega arith))
 
 no-byte : (t : ℕ) → stages-lts.Need-returns (stages-told t) (stages-at t) stages.Post
 unfolding chainOf
@@ -108,7 +119,7 @@ no-byte t c = rw (eq-eqb _ _ (c .before .if1 .taken)) (c .pass .ensures)
 
 one-byte-taken : (t : ℕ) → stages-lts.Need-returns-2 (stages-told t) (stages-at t) stages.Post
 unfolding chainOf
-one-byte-taken t c = rw (ne-eqb _ _ (c .before .before .before .if1 .left), ← c .before .one-byte .ensures, c .if2 .taken)
+one-byte-taken t c = rw (ne-eqb _ _ (c .before .before .before .if1 .left), ← one-told t (c .before), c .if2 .taken)
 
 pub +disas-dd-fd-prefix+disas-ref-spec : {M : Type 1} → statement M
 unfolding fromTwo fromThree fromFour

@@ -4,6 +4,7 @@ use native.Mathlib.Omega.{arith}
 use borrow.Author.Needs.{needs}
 use borrow.Author.Tests.{lt-ltb, eq-eqb, ne-eqb}
 use denote.Ref.{now}
+use lib.ListN.{length}
 use Rattle.table.specs.Decode.{four, done, decodeOf}
 use Rattle.stage.specs.declared.rows.Stage.{Stage}
 use Rattle.disas.proofs.Agrees.{fresh, staged, decoder-agrees, done-staged, short-staged}
@@ -14,7 +15,7 @@ use Rattle.disas.proofs.disas.Tie as tie
 told : (c : tie.After-disas-ref) → c .disas-ref .result ≡ staged (decodeOf (now (c .before .before .before .before .before .before .args .ins))) (fresh (four (now (c .before .before .before .before .before .before .args .ins))))
 told c =
     (rw (c .before .before .new .ensures, c .before .ins-to-data .ensures) at (c .disas-ref .ensures))
-    ∙ decoder-agrees (now (c .before .before .before .before .before .before .args .ins)) (λ k. c .before .before .before .before .before .shared-slice-known .given k .fits) (c .before .before .before .if2 .left)
+    ∙ decoder-agrees (now (c .before .before .before .before .before .before .args .ins)) (λ k. c .before .before .before .before .before .shared-slice-known .given k .fits) (omega arith)
 
 nothing : tie.Need-returns
 unfolding decodeOf
@@ -22,7 +23,7 @@ nothing c = rw (eq-eqb _ _ (c .before .if1 .taken)) (c .refuse .ensures)
 
 long : tie.Need-returns-2
 unfolding decodeOf
-long c = rw (ne-eqb _ _ (c .before .before .if1 .left), lt-ltb _ _ (c .before .if2 .taken)) (c .refuse2 .ensures)
+long c = rw (ne-eqb _ _ (c .before .before .if1 .left), lt-ltb 4 (length (now (c .before .before .before .before .args .ins))) (omega arith)) (c .refuse2 .ensures)
 
 pub disas-spec : {M : Type 1} → statement M
 disas-spec =
