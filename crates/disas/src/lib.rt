@@ -110,8 +110,7 @@ fn disas_ref(ins: &[u8], rec: OpCode) -> Stage
         return prefixed;
     }
     let inner = prefixed.rec;
-    let ins4 = ins[3];
-    four_bytes(ins1, ins2, ins3, ins4, inner)
+    four_bytes(ins1, ins2, ins3, ins[3], inner)
 }
 
 // DD or FD before anything but CB and EB: the rest is decoded, and HL in it replaced.

@@ -14,6 +14,14 @@ bare i = row0 i 1 (t1 4)
 abbrev pub exchange : Reg16 → Reg16 → Row
 exchange x y = row2 Instruction.EX (rr x) (rr y) 1 (t1 4)
 
+-- EX (SP),HL
+abbrev pub exchangeTop : Row
+exchangeTop = row2 Instruction.EX (at Reg16.SP) (rr Reg16.HL) 1 (t5 4 3 4 3 5)
+
+-- LD SP,HL
+abbrev pub loadSp : Row
+loadSp = row2 Instruction.LD (rr Reg16.SP) (rr Reg16.HL) 1 (t1 6)
+
 abbrev pub loadA : Operand → Operand → Row
 loadA x y = row2 Instruction.LD (is x) (is y) 1 (t2 4 3)
 
@@ -28,7 +36,7 @@ bytes =
     ∷ arm 0x1F (bare Instruction.RRA)
     ∷ arm 0x08 (exchange Reg16.AF Reg16.AFp)
     ∷ arm 0xEB (exchange Reg16.DE Reg16.HL)
-    ∷ arm 0xE3 (row2 Instruction.EX (at Reg16.SP) (rr Reg16.HL) 1 (t5 4 3 4 3 5))
+    ∷ arm 0xE3 exchangeTop
     ∷ arm 0x0A (loadA (Operand.Reg8 Reg8.A) (Operand.RegAddr Reg16.BC))
     ∷ arm 0x1A (loadA (Operand.Reg8 Reg8.A) (Operand.RegAddr Reg16.DE))
     ∷ arm 0x27 (bare Instruction.DAA)
@@ -40,7 +48,7 @@ bytes =
     ∷ arm 0xD9 (bare Instruction.EXX)
     ∷ arm 0xE9 (row1 Instruction.JP (rr Reg16.HL) 1 (t1 4))
     ∷ arm 0xF3 (bare Instruction.DI)
-    ∷ arm 0xF9 (row2 Instruction.LD (rr Reg16.SP) (rr Reg16.HL) 1 (t1 6))
+    ∷ arm 0xF9 loadSp
     ∷ arm 0xFB (bare Instruction.EI)
     ∷ []
 

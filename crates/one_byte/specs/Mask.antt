@@ -25,12 +25,18 @@ loads x y =
 abbrev pub loadRow : ℕ → Row
 loadRow b = loads (regHl (bitAnd (b / 8) 7)) (regHl (bitAnd b 7))
 
+abbrev pub addHl : Reg16 → Row
+addHl q = row2 Instruction.ADD (rr Reg16.HL) (rr q) 1 (t3 4 4 3)
+
+abbrev pub returnIf : ℕ → Row
+returnIf x = row1 Instruction.RET (cc (ccOf x)) 1 (t3 5 3 3)
+
 -- by bits 5 and 4
 abbrev pub byPair : ℕ → List (List ℕ × Row)
 byPair x =
     arm 0x03 (row1 Instruction.INC (rr (ddOf x)) 1 (t1 6))
     ∷ arm 0x0B (row1 Instruction.DEC (rr (ddOf x)) 1 (t1 6))
-    ∷ arm 0x09 (row2 Instruction.ADD (rr Reg16.HL) (rr (ddOf x)) 1 (t3 4 4 3))
+    ∷ arm 0x09 (addHl (ddOf x))
     ∷ arm 0xC1 (row1 Instruction.POP (rr (qqOf x)) 1 (t3 4 3 3))
     ∷ arm 0xC5 (row1 Instruction.PUSH (rr (qqOf x)) 1 (t3 5 3 3))
     ∷ []
@@ -40,7 +46,7 @@ abbrev pub byEight : ℕ → List (List ℕ × Row)
 byEight x =
     arm 0x04 (incDec Instruction.INC x)
     ∷ arm 0x05 (incDec Instruction.DEC x)
-    ∷ arm 0xC0 (row1 Instruction.RET (cc (ccOf x)) 1 (t3 5 3 3))
+    ∷ arm 0xC0 (returnIf x)
     ∷ arm 0xC7 (row1 Instruction.RST (lit (x * 8 % 256)) 1 (t3 5 3 3))
     ∷ []
 

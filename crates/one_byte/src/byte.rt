@@ -2,7 +2,7 @@
 ghost use mathlib.Core.Path.{_≡_};
 ghost use mathlib.Core.List.{[]};
 ghost use Rattle.stage.specs.Stage.{answer};
-ghost use Rattle.one_byte.specs.Byte.{bare, exchange, loadA, byteRow};
+ghost use Rattle.one_byte.specs.Byte.{bare, exchange, exchangeTop, loadSp, loadA, byteRow};
 use opcode::instruction::Instruction;
 use opcode::operand::Operand;
 use opcode::record::OpCode;
@@ -39,6 +39,32 @@ fn ex(rec: OpCode, op1: Reg16, op2: Reg16) -> Stage
     )
 }
 
+fn ex_sp_hl(rec: OpCode) -> Stage
+    ensures { λ r. ⌜ r ≡ answer exchangeTop [] rec ⌝ }
+{
+    row2(
+        rec,
+        1,
+        Instruction::EX,
+        Operand::RegAddr(Reg16::SP),
+        Operand::Reg16(Reg16::HL),
+        t5(4, 3, 4, 3, 5),
+    )
+}
+
+fn ld_sp_hl(rec: OpCode) -> Stage
+    ensures { λ r. ⌜ r ≡ answer loadSp [] rec ⌝ }
+{
+    row2(
+        rec,
+        1,
+        Instruction::LD,
+        Operand::Reg16(Reg16::SP),
+        Operand::Reg16(Reg16::HL),
+        t1(6),
+    )
+}
+
 // LD between A and (BC), (DE), [4, 3]
 fn ld_a(rec: OpCode, op1: Operand, op2: Operand) -> Stage
     ensures { λ r. ⌜ r ≡ answer (loadA op1 op2) [] rec ⌝ }
@@ -59,15 +85,7 @@ pub fn disas_one_byte(ins: u8, rec: OpCode) -> Stage
         0x1F => plain(rec, Instruction::RRA),
         0x08 => ex(rec, Reg16::AF, Reg16::AFp),
         0xEB => ex(rec, Reg16::DE, Reg16::HL),
-        // EX (SP), HL
-        0xE3 => row2(
-            rec,
-            1,
-            Instruction::EX,
-            Operand::RegAddr(Reg16::SP),
-            Operand::Reg16(Reg16::HL),
-            t5(4, 3, 4, 3, 5),
-        ),
+        0xE3 => ex_sp_hl(rec),
         0x0A => ld_a(rec, Operand::Reg8(Reg8::A), Operand::RegAddr(Reg16::BC)),
         0x1A => ld_a(rec, Operand::Reg8(Reg8::A), Operand::RegAddr(Reg16::DE)),
         0x27 => plain(rec, Instruction::DAA),
@@ -80,15 +98,7 @@ pub fn disas_one_byte(ins: u8, rec: OpCode) -> Stage
         // JP HL
         0xE9 => row1(rec, 1, Instruction::JP, Operand::Reg16(Reg16::HL), t1(4)),
         0xF3 => plain(rec, Instruction::DI),
-        // LD SP, HL
-        0xF9 => row2(
-            rec,
-            1,
-            Instruction::LD,
-            Operand::Reg16(Reg16::SP),
-            Operand::Reg16(Reg16::HL),
-            t1(6),
-        ),
+        0xF9 => ld_sp_hl(rec),
         0xFB => plain(rec, Instruction::EI),
         _ => pass(rec),
     }

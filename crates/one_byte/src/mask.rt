@@ -1,12 +1,15 @@
 // Groups of one byte by masks: pairs, INC, DEC, RET cc, RST, LD r,r' and HALT.
 ghost use mathlib.Core.Path.{_≡_};
 ghost use mathlib.Core.List.{[]};
-ghost use Rattle.stage.specs.Stage.{answer};
-ghost use Rattle.one_byte.specs.Mask.{incDec, loads, loadRow, maskRow};
+ghost use Rattle.opcode.specs.declared.operand.Operand.{Operand};
+ghost use Rattle.opcode.specs.declared.operand.Place.{Place};
+ghost use Rattle.stage.specs.Stage.{took, answer};
+ghost use Rattle.one_byte.specs.Mask.{incDec, loads, loadRow, addHl, returnIf, maskRow};
 use opcode::instruction::Instruction;
 use opcode::operand::Operand;
 use opcode::record::OpCode;
 use opcode::registers::Reg16;
+use opcode::timing::Timing;
 use stage::cycles::t1;
 use stage::cycles::t2;
 use stage::cycles::t3;
@@ -56,57 +59,64 @@ fn load(ins: u8, rec: OpCode) -> Stage
     loaded(rec, op1, op2)
 }
 
+// A register pair as the one operand
+fn pair(rec: OpCode, ins: Instruction, reg: Reg16, t: Timing) -> Stage
+    ensures { λ r. ⌜ r ≡ took rec 1 ins (Place.Of (Operand.Reg16 reg)) Place.Empty Place.Empty t ⌝ }
+{
+    row1(rec, 1, ins, Operand::Reg16(reg), t)
+}
+
+fn add_hl(rec: OpCode, reg: Reg16) -> Stage
+    ensures { λ r. ⌜ r ≡ answer (addHl reg) [] rec ⌝ }
+{
+    row2(
+        rec,
+        1,
+        Instruction::ADD,
+        Operand::Reg16(Reg16::HL),
+        Operand::Reg16(reg),
+        t3(4, 4, 3),
+    )
+}
+
+fn ret_cc(rec: OpCode, arg: u8) -> Stage
+    ensures { λ r. ⌜ r ≡ answer (returnIf arg) [] rec ⌝ }
+{
+    let cond = decode_operand_cond_cc(arg);
+    row1(
+        rec,
+        1,
+        Instruction::RET,
+        Operand::FlagCondition(cond),
+        t3(5, 3, 3),
+    )
+}
+
 pub fn disas_one_byte_mask(ins: u8, rec: OpCode) -> Stage
     ensures { λ r. ⌜ r ≡ answer (maskRow ins) [] rec ⌝ }
 {
     let reg = decode_operand_reg_ddss((ins >> 4) & 0x3);
+    let qq = decode_operand_reg_qq((ins >> 4) & 0x3);
     match ins & 0xCF {
-        // INC ss
-        0x03 => return row1(rec, 1, Instruction::INC, Operand::Reg16(reg), t1(6)),
-        // DEC ss
-        0x0B => return row1(rec, 1, Instruction::DEC, Operand::Reg16(reg), t1(6)),
-        // ADD HL, ss
-        0x09 => {
-            return row2(
-                rec,
-                1,
-                Instruction::ADD,
-                Operand::Reg16(Reg16::HL),
-                Operand::Reg16(reg),
-                t3(4, 4, 3),
-            );
-        }
-        // POP qq
-        0xC1 => {
-            let qq = decode_operand_reg_qq((ins >> 4) & 0x3);
-            return row1(rec, 1, Instruction::POP, Operand::Reg16(qq), t3(4, 3, 3));
-        }
-        // PUSH qq
-        0xC5 => {
-            let qq = decode_operand_reg_qq((ins >> 4) & 0x3);
-            return row1(rec, 1, Instruction::PUSH, Operand::Reg16(qq), t3(5, 3, 3));
-        }
+        0x03 => return pair(rec, Instruction::INC, reg, t1(6)),
+        0x0B => return pair(rec, Instruction::DEC, reg, t1(6)),
+        0x09 => return add_hl(rec, reg),
+        0xC1 => return pair(rec, Instruction::POP, qq, t3(4, 3, 3)),
+        0xC5 => return pair(rec, Instruction::PUSH, qq, t3(5, 3, 3)),
         _ => {}
     }
+    let opraw = (ins >> 3) & 0x7;
     match ins & 0xC7 {
-        0x04 => return inc_dec(rec, Instruction::INC, (ins >> 3) & 0x7),
-        0x05 => return inc_dec(rec, Instruction::DEC, (ins >> 3) & 0x7),
-        // RET cc
-        0xC0 => {
-            let cond = decode_operand_cond_cc((ins >> 3) & 0x7);
-            return row1(
-                rec,
-                1,
-                Instruction::RET,
-                Operand::FlagCondition(cond),
-                t3(5, 3, 3),
-            );
-        }
-        // RST p
-        0xC7 => {
-            let p = ((ins >> 3) & 0x7) << 3;
-            return row1(rec, 1, Instruction::RST, Operand::Imm8(p), t3(5, 3, 3));
-        }
+        0x04 => return inc_dec(rec, Instruction::INC, opraw),
+        0x05 => return inc_dec(rec, Instruction::DEC, opraw),
+        0xC0 => return ret_cc(rec, opraw),
+        0xC7 => return row1(
+            rec,
+            1,
+            Instruction::RST,
+            Operand::Imm8(opraw << 3),
+            t3(5, 3, 3),
+        ),
         _ => {}
     }
     if ins >> 6 == 0x1 {

@@ -87,6 +87,7 @@ pub fn decode_operand_cond_cc(arg: u8) -> FlagCondition
     }
 }
 
+// Is it HL?
 pub fn is_hl(q: Reg16) -> bool
     ensures { λ b. ⌜ b ≡ isHL q ⌝ }
 {
