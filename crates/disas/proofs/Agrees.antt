@@ -42,7 +42,11 @@ fresh d = withData emptyOf d
 abbrev pub staged : Decoded → OpCode → Stage
 staged r o = cond (eqb (numberOf (r .answer)) 0) (taken (r .rec)) (passed o)
 
--- at most four bytes, the first of them b0; p and r stand for what lies behind a prefix
+-- what holds behind DD and behind FD holds behind a prefix
+by-prefix : (P : ℕ → Type 0) (b0 : ℕ) → isPrefix b0 ≡ true → P 0xDD → P 0xFD → P b0
+by-prefix P b0 q x y = ⊎-elim (λ e. subst P (sym e) x) (λ e. subst P (sym e) y) (prefixed b0 q)
+
+-- one to four bytes; p and r stand for what lies behind a prefix
 module _ (p : Stage) (r : Decoded) (d : List ℕ) where
   abbrev chained : List ℕ → Stage
   chained s = chainOf p s (fresh d)
@@ -50,71 +54,62 @@ module _ (p : Stage) (r : Decoded) (d : List ℕ) where
   abbrev stepped : List ℕ → Stage
   stepped s = staged (step r s d) (fresh d)
 
-  one-codes : values (λ (b : ℕ). chained (b ∷ [])) 0 256 ≡ values (λ (b : ℕ). stepped (b ∷ [])) 0 256
-  unfolding plain cb ed pageRow step chainOf fromTwo
-  one-codes = refl
+  abbrev Meet : List ℕ → Type 0
+  Meet s = chained s ≡ stepped s
 
-  -- CB and ED are told apart by the byte behind them, and DD and FD by the rule for prefixes
+  -- CB and ED go by the byte behind them, and DD and FD by the rule for prefixes
   abbrev unless : (ℕ → Stage) → ℕ → Stage
   unless f b = cond (eqb b 0xCB || (eqb b 0xED || isPrefix b)) (passed (fresh d)) (f b)
 
-  -- the three tests, with the bytes l behind the second one
-  pub record Codes (b1 : ℕ) (l : List ℕ) : Type 0 where
+  -- a test over the codes of each page, with the bytes l behind the second one
+  record Codes (b1 : ℕ) (l : List ℕ) : Type 0 where
     pub plain-codes : values (unless (λ (b : ℕ). chained (b ∷ b1 ∷ l))) 0 256 ≡ values (unless (λ (b : ℕ). stepped (b ∷ b1 ∷ l))) 0 256
     pub cb-codes : values (λ (b : ℕ). chained (0xCB ∷ b ∷ l)) 0 256 ≡ values (λ (b : ℕ). stepped (0xCB ∷ b ∷ l)) 0 256
     pub ed-codes : values (λ (b : ℕ). chained (0xED ∷ b ∷ l)) 0 256 ≡ values (λ (b : ℕ). stepped (0xED ∷ b ∷ l)) 0 256
 
-  module _ (b1 : ℕ) where
-    two-codes : Codes b1 []
-    unfolding plain cb ed pageRow step chainOf fromTwo fromThree
-    two-codes = record { plain-codes = refl; cb-codes = refl; ed-codes = refl }
-
-    three-codes : (b2 : ℕ) → Codes b1 (b2 ∷ [])
-    unfolding plain cb ed pageRow step chainOf fromTwo fromThree
-    three-codes b2 = record { plain-codes = refl; cb-codes = refl; ed-codes = refl }
-
-  -- a first byte that is no prefix
-  by-page : (b0 b1 : ℕ) (l : List ℕ) → Codes b1 l → b0 < 256 → b1 < 256 → isPrefix b0 ≡ false → chained (b0 ∷ b1 ∷ l) ≡ stepped (b0 ∷ b1 ∷ l)
+  by-page : (b0 b1 : ℕ) (l : List ℕ) → Codes b1 l → b0 < 256 → b1 < 256 → isPrefix b0 ≡ false → Meet (b0 ∷ b1 ∷ l)
   by-page b0 b1 l codes h0 h1 q = by-first (eqb b0 0xCB) (eqb b0 0xED) refl refl
     where
-      by-first : (u v : Bool) → eqb b0 0xCB ≡ u → eqb b0 0xED ≡ v → chained (b0 ∷ b1 ∷ l) ≡ stepped (b0 ∷ b1 ∷ l)
+      by-first : (u v : Bool) → eqb b0 0xCB ≡ u → eqb b0 0xED ≡ v → Meet (b0 ∷ b1 ∷ l)
       by-first true v e f =
-          subst (λ (b : ℕ). chained (b ∷ b1 ∷ l) ≡ stepped (b ∷ b1 ∷ l)) (sym (eqb-true b0 0xCB e))
+          subst (λ (b : ℕ). Meet (b ∷ b1 ∷ l)) (sym (eqb-true b0 0xCB e))
           (agree (λ (b : ℕ). chained (0xCB ∷ b ∷ l)) (λ (b : ℕ). stepped (0xCB ∷ b ∷ l)) (passed (fresh d)) 256 (codes .cb-codes) b1 h1)
       by-first false true e f =
-          subst (λ (b : ℕ). chained (b ∷ b1 ∷ l) ≡ stepped (b ∷ b1 ∷ l)) (sym (eqb-true b0 0xED f))
+          subst (λ (b : ℕ). Meet (b ∷ b1 ∷ l)) (sym (eqb-true b0 0xED f))
           (agree (λ (b : ℕ). chained (0xED ∷ b ∷ l)) (λ (b : ℕ). stepped (0xED ∷ b ∷ l)) (passed (fresh d)) 256 (codes .ed-codes) b1 h1)
       by-first false false e f =
           otherwise (eqb b0 0xCB || (eqb b0 0xED || isPrefix b0)) (passed (fresh d)) (chained (b0 ∷ b1 ∷ l)) (stepped (b0 ∷ b1 ∷ l)) (rw (e, f, q))
           (agree (unless (λ (b : ℕ). chained (b ∷ b1 ∷ l))) (unless (λ (b : ℕ). stepped (b ∷ b1 ∷ l))) (passed (fresh d)) 256 (codes .plain-codes) b0 h0)
 
-  -- what holds behind DD and behind FD holds behind a prefix
-  by-prefix : (P : ℕ → Type 0) (b0 : ℕ) → isPrefix b0 ≡ true → P 0xDD → P 0xFD → P b0
-  by-prefix P b0 q x y = ⊎-elim (λ e. subst P (sym e) x) (λ e. subst P (sym e) y) (prefixed b0 q)
-
-  -- below four bytes a prefix is refused, and any other byte goes by its page
-  few-agrees : (b0 b1 : ℕ) (l : List ℕ) → Codes b1 l → chained (0xDD ∷ b1 ∷ l) ≡ stepped (0xDD ∷ b1 ∷ l) → chained (0xFD ∷ b1 ∷ l) ≡ stepped (0xFD ∷ b1 ∷ l) → b0 < 256 → b1 < 256 → chained (b0 ∷ b1 ∷ l) ≡ stepped (b0 ∷ b1 ∷ l)
-  few-agrees b0 b1 l codes dd fd h0 h1 = by-test (isPrefix b0) refl
+  -- a prefix goes by what holds behind DD and FD, and any other byte by its page
+  by-first-byte :
+      (b0 b1 : ℕ) (l : List ℕ) → Codes b1 l → Meet (0xDD ∷ b1 ∷ l) → Meet (0xFD ∷ b1 ∷ l) → b0 < 256 → b1 < 256 → Meet (b0 ∷ b1 ∷ l)
+  by-first-byte b0 b1 l codes dd fd h0 h1 = by-test (isPrefix b0) refl
     where
-      by-test : (t : Bool) → isPrefix b0 ≡ t → chained (b0 ∷ b1 ∷ l) ≡ stepped (b0 ∷ b1 ∷ l)
-      by-test true q = by-prefix (λ (b : ℕ). chained (b ∷ b1 ∷ l) ≡ stepped (b ∷ b1 ∷ l)) b0 q dd fd
+      by-test : (t : Bool) → isPrefix b0 ≡ t → Meet (b0 ∷ b1 ∷ l)
+      by-test true q = by-prefix (λ (b : ℕ). Meet (b ∷ b1 ∷ l)) b0 q dd fd
       by-test false q = by-page b0 b1 l codes h0 h1 q
 
-  one-agrees : (b0 : ℕ) → b0 < 256 → chained (b0 ∷ []) ≡ stepped (b0 ∷ [])
-  one-agrees = agree (λ (b : ℕ). chained (b ∷ [])) (λ (b : ℕ). stepped (b ∷ [])) (passed (fresh d)) 256 one-codes
+  none-meet : Meet []
+  unfolding step chainOf
+  none-meet = refl
 
-  two-agrees : (b0 b1 : ℕ) → b0 < 256 → b1 < 256 → chained (b0 ∷ b1 ∷ []) ≡ stepped (b0 ∷ b1 ∷ [])
-  unfolding plain pageRow step chainOf fromTwo fromThree
-  two-agrees b0 b1 = few-agrees b0 b1 [] (two-codes b1) refl refl
+  one-meet : (b0 : ℕ) → b0 < 256 → Meet (b0 ∷ [])
+  unfolding plain cb ed pageRow step chainOf fromTwo
+  one-meet = agree (λ (b : ℕ). chained (b ∷ [])) (λ (b : ℕ). stepped (b ∷ [])) (passed (fresh d)) 256 refl
 
-  three-agrees : (b0 b1 b2 : ℕ) → b0 < 256 → b1 < 256 → chained (b0 ∷ b1 ∷ b2 ∷ []) ≡ stepped (b0 ∷ b1 ∷ b2 ∷ [])
-  unfolding plain pageRow step chainOf fromTwo fromThree
-  three-agrees b0 b1 b2 = few-agrees b0 b1 (b2 ∷ []) (three-codes b1 b2) refl refl
+  two-meet : (b0 b1 : ℕ) → b0 < 256 → b1 < 256 → Meet (b0 ∷ b1 ∷ [])
+  unfolding plain cb ed pageRow step chainOf fromTwo fromThree
+  two-meet b0 b1 = by-first-byte b0 b1 [] (record { plain-codes = refl; cb-codes = refl; ed-codes = refl }) refl refl
+
+  three-meet : (b0 b1 b2 : ℕ) → b0 < 256 → b1 < 256 → Meet (b0 ∷ b1 ∷ b2 ∷ [])
+  unfolding plain cb ed pageRow step chainOf fromTwo fromThree
+  three-meet b0 b1 b2 = by-first-byte b0 b1 (b2 ∷ []) (record { plain-codes = refl; cb-codes = refl; ed-codes = refl }) refl refl
 
 -- four bytes with no prefix in front: the prefix step passes
-four-codes : (r : Decoded) (d : List ℕ) (b1 b2 b3 : ℕ) → Codes (passed (fresh d)) r d b1 (b2 ∷ b3 ∷ [])
+page-meet : (r : Decoded) (d : List ℕ) (b0 b1 b2 b3 : ℕ) → b0 < 256 → b1 < 256 → isPrefix b0 ≡ false → Meet (passed (fresh d)) r d (b0 ∷ b1 ∷ b2 ∷ b3 ∷ [])
 unfolding plain cb ed pageRow step chainOf fromTwo fromThree fromFour lastOf mayInsert insertOf inserted
-four-codes r d b1 b2 b3 = record { plain-codes = refl; cb-codes = refl; ed-codes = refl }
+page-meet r d b0 b1 b2 b3 = by-page (passed (fresh d)) r d b0 b1 (b2 ∷ b3 ∷ []) (record { plain-codes = refl; cb-codes = refl; ed-codes = refl })
 
 -- a row taken, and where there is none, a NOP
 row-or-nop : (x : Row) (s d : List ℕ) → orNext (answer x s (fresh d)) (taken (asNop (fresh d))) ≡ taken (recordOf x s d)
@@ -164,7 +159,7 @@ module _ (b1 b2 b3 : ℕ) (d : List ℕ) (h1 : b1 < 256) (h2 : b2 < 256) where
   rest = step (refused Answer.Short) (b1 ∷ b2 ∷ b3 ∷ []) d
 
   rest-staged : restOf (b1 ∷ b2 ∷ b3 ∷ []) (fresh d) ≡ staged rest (fresh d)
-  rest-staged = three-agrees (passed (fresh d)) (refused Answer.Short) d b1 b2 b3 h1 h2
+  rest-staged = three-meet (passed (fresh d)) (refused Answer.Short) d b1 b2 b3 h1 h2
 
   rest-short : eqb (numberOf (rest .answer)) 0 ≡ true → rest .rec .length .0 ≤ 4
   rest-short = by-test (eqb (numberOf (rest .answer)) 0) (rw rest-staged at (rest-within (b1 ∷ b2 ∷ b3 ∷ []) (fresh d) (omega arith)))
@@ -173,38 +168,31 @@ module _ (b1 b2 b3 : ℕ) (d : List ℕ) (h1 : b1 < 256) (h2 : b2 < 256) where
       by-test true short e = short refl
       by-test false short e = absurd (true≢false (sym e))
 
-  abbrev Agrees : ℕ → Type 0
-  Agrees b0 = decoderOf (b0 ∷ b1 ∷ b2 ∷ b3 ∷ []) (fresh d) ≡ staged (reading 1 (b0 ∷ b1 ∷ b2 ∷ b3 ∷ []) d) (fresh d)
+  abbrev Agree : ℕ → Type 0
+  Agree b0 = decoderOf (b0 ∷ b1 ∷ b2 ∷ b3 ∷ []) (fresh d) ≡ staged (reading 1 (b0 ∷ b1 ∷ b2 ∷ b3 ∷ []) d) (fresh d)
 
-  dd-agrees : Agrees 0xDD
+  dd-agrees : Agree 0xDD
   unfolding plain pageRow reading step chainOf fromTwo fromThree fromFour lastOf prefixOf
   dd-agrees = rw rest-staged (prefix-tests ix rest d b2 b3 rest-short (eqb b1 0xCB) (eqb b1 0xEB))
 
-  fd-agrees : Agrees 0xFD
+  fd-agrees : Agree 0xFD
   unfolding plain pageRow reading step chainOf fromTwo fromThree fromFour lastOf prefixOf
   fd-agrees = rw rest-staged (prefix-tests iy rest d b2 b3 rest-short (eqb b1 0xCB) (eqb b1 0xEB))
 
-  page-agrees : (b0 : ℕ) → b0 < 256 → isPrefix b0 ≡ false → Agrees b0
+  four-agrees : (b0 : ℕ) → b0 < 256 → Agree b0
   unfolding reading prefixOf
-  page-agrees b0 h0 q = rw q (by-page (passed (fresh d)) rest d b0 b1 (b2 ∷ b3 ∷ []) (four-codes rest d b1 b2 b3) h0 h1 q)
-
-  four-agrees : (b0 : ℕ) → b0 < 256 → Agrees b0
   four-agrees b0 h0 = by-test (isPrefix b0) refl
     where
-      by-test : (t : Bool) → isPrefix b0 ≡ t → Agrees b0
-      by-test true q = by-prefix (passed (fresh d)) rest d Agrees b0 q dd-agrees fd-agrees
-      by-test false q = page-agrees b0 h0 q
-
-none-agrees : (p : Stage) (r : Decoded) (d : List ℕ) → chained p r d [] ≡ stepped p r d []
-unfolding step chainOf
-none-agrees p r d = refl
+      by-test : (t : Bool) → isPrefix b0 ≡ t → Agree b0
+      by-test true q = by-prefix Agree b0 q dd-agrees fd-agrees
+      by-test false q = rw q (page-meet rest d b0 b1 b2 b3 h0 h1 q)
 
 steps-staged : (s d : List ℕ) → AllBytes s → length s ≤ 4 → decoderOf s (fresh d) ≡ staged (reading 1 s d) (fresh d)
 unfolding reading
-steps-staged [] d bytes most = none-agrees _ _ d
-steps-staged (b0 ∷ []) d bytes most = one-agrees _ _ d b0 (bytes 0)
-steps-staged (b0 ∷ b1 ∷ []) d bytes most = two-agrees _ _ d b0 b1 (bytes 0) (bytes 1)
-steps-staged (b0 ∷ b1 ∷ b2 ∷ []) d bytes most = three-agrees _ _ d b0 b1 b2 (bytes 0) (bytes 1)
+steps-staged [] d bytes most = none-meet _ _ d
+steps-staged (b0 ∷ []) d bytes most = one-meet _ _ d b0 (bytes 0)
+steps-staged (b0 ∷ b1 ∷ []) d bytes most = two-meet _ _ d b0 b1 (bytes 0) (bytes 1)
+steps-staged (b0 ∷ b1 ∷ b2 ∷ []) d bytes most = three-meet _ _ d b0 b1 b2 (bytes 0) (bytes 1)
 steps-staged (b0 ∷ b1 ∷ b2 ∷ b3 ∷ []) d bytes most = four-agrees b1 b2 b3 d (bytes 1) (bytes 2) b0 (bytes 0)
 steps-staged (b0 ∷ b1 ∷ b2 ∷ b3 ∷ b4 ∷ s) d bytes most = absurd (omega arith)
 

@@ -21,17 +21,17 @@ at-keys {A} f a (k ∷ (k′ ∷ ks)) x e (inr o) = at-keys f a (k′ ∷ ks) x 
 -- what the default of a `match` knows beside N: the number is among the keys of no arm
 abbrev pub Rest : {A : Type 0} → Type 0 → ℕ → List (List ℕ × A) → Type 0
 Rest N x [] = N
-Rest N x (arm ∷ arms) = Rest (N × (OneOf (arm .0) x → ⊥)) x arms
+Rest N x (a ∷ arms) = Rest (N × (OneOf (a .0) x → ⊥)) x arms
 
-skipped : {A : Type 0} (t : Bool) (O : Type 0) (a b : A) → (T t → O) → (O → ⊥) → cond t a b ≡ b
-skipped true O a b f n = absurd (n (f tt))
-skipped false O a b f n = refl
+skipped : {A : Type 0} (t : Bool) (O : Type 0) (u v : A) → (T t → O) → (O → ⊥) → cond t u v ≡ v
+skipped true O u v f n = absurd (n (f tt))
+skipped false O u v f n = refl
 
 none-from : {A : Type 0} (N : Type 0) (x : ℕ) (arms : List (List ℕ × A)) (d : A) → Rest N x arms → (sel x arms d ≡ d) × N
 none-from N x [] d rest = (refl, rest)
-none-from N x (arm ∷ arms) d rest =
-    let p = none-from (N × (OneOf (arm .0) x → ⊥)) x arms d rest in
-    (skipped (hasKey (arm .0) x) (OneOf (arm .0) x) (arm .1) (sel x arms d) (hit (arm .0) x) (p .1 .1) ∙ p .0, p .1 .0)
+none-from N x (a ∷ arms) d rest =
+    let p = none-from (N × (OneOf (a .0) x → ⊥)) x arms d rest in
+    (skipped (hasKey (a .0) x) (OneOf (a .0) x) (a .1) (sel x arms d) (hit (a .0) x) (p .1 .1) ∙ p .0, p .1 .0)
 
 -- at the default the choice is d
 pub at-none : {A : Type 0} (x : ℕ) (arms : List (List ℕ × A)) (d : A) → Rest (Unit {0}) x arms → sel x arms d ≡ d

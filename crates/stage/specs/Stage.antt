@@ -16,28 +16,27 @@ use Rattle.stage.specs.declared.rows.Stage.{Stage}
 abbrev pub places : ℕ → ℕ → ℕ → ℕ → ℕ → ℕ → ℕ → Timing
 places m a b c d e f = record { tstates = states (a ∷ b ∷ c ∷ d ∷ e ∷ f ∷ []); mcycles = record { 0 = m } }
 
+-- the bytes are left to the next stage, or taken
 abbrev pub passed : OpCode → Stage
 passed o = record { ok = false; rec = o }
 
 abbrev pub taken : OpCode → Stage
 taken o = record { ok = true; rec = o }
 
+-- taken with all fields anew but the data
 abbrev pub took : OpCode → ℕ → Instruction → Place → Place → Place → Timing → Stage
 took o n i x y z t =
-    record {
-      ok = true;
-      rec =
-          record {
-            length = record { 0 = n };
-            ins = i;
-            op1 = x;
-            op2 = y;
-            op3 = z;
-            «data» = o .«data»;
-            tstates = t .tstates;
-            mcycles = t .mcycles;
-          };
-    }
+    taken
+    (record {
+      length = record { 0 = n };
+      ins = i;
+      op1 = x;
+      op2 = y;
+      op3 = z;
+      «data» = o .«data»;
+      tstates = t .tstates;
+      mcycles = t .mcycles;
+    })
 
 -- a row over the bytes s behind its code is taken, with the data of the record that comes in; a gap leaves that record as it is
 abbrev pub answer : Row → List ℕ → OpCode → Stage

@@ -6,7 +6,6 @@ ghost use Rattle.stage.specs.Stage.{answer, ofLength};
 use opcode::record::OpCode;
 use stage::numbers::word;
 use stage::rows::Stage;
-use stage::rows::pass;
 
 mod cb;
 mod ed;

@@ -1,10 +1,7 @@
 -- `alu8_base` meets its contract. Assumes nothing.
 use borrow.Author.Needs.{needs}
 use mathlib.Core.List.{[], _∷_}
-use mathlib.Core.Path.{sym, ap, _∙_}
-use Rattle.table.specs.Row.{Cycles, t1, t2}
-use Rattle.table.specs.Departures.{oneFigure}
-use Rattle.table.specs.Steps.{timing}
+use Rattle.table.specs.Row.{t1, t2}
 use Rattle.stage.specs.Choice.{arm}
 use Rattle.stage.proofs.Keys.{at-none}
 use Rattle.one_byte.specs.Shift3.{aluCycles}
