@@ -62,7 +62,7 @@ fn jump_if(rec: OpCode, cond: FlagCondition, e: u8) -> Stage
     )
 }
 
-pub fn disas_two_bytes(ins1: u8, ins2: u8, rec: OpCode) -> Stage
+pub(crate) fn disas_two_bytes(ins1: u8, ins2: u8, rec: OpCode) -> Stage
     ensures { λ r. ⌜ r ≡ answer (immediateRow ins1) (ins2 ∷ []) rec ⌝ }
 {
     match ins1 {
