@@ -26,7 +26,7 @@ pub part-length : (s : List ℕ) → length (take (length s - 1) (drop 1 s)) ≡
 part-length s = ap length (part s) ∙ length-drop 1 s
 
 -- below four bytes it does not matter what the prefix step would make of them
-pub few : (p q : Stage) (s : List ℕ) (o : OpCode) → length s < 4 → chainOf p s o ≡ chainOf q s o
+few : (p q : Stage) (s : List ℕ) (o : OpCode) → length s < 4 → chainOf p s o ≡ chainOf q s o
 unfolding chainOf fromTwo fromThree
 few p q s o fits = rw (lt-ltb (length s) 4 fits)
 

@@ -62,15 +62,16 @@ stages-told t =
 -- the tests that come before the rest is looked at, all passed
 past-tests :
     (t : ℕ) (c : prefix-lts.Else3 (prefix-told t) (prefix-at t) prefix.Post)
-    → prefixOf (restOf (drop 1 (now (c .before .before .before .before .before .before .before .args .ins))) (c .before .before .before .before .before .before .before .args .rec)) (now (c .before .before .before .before .before .before .before .args .ins)) (c .before .before .before .before .before .before .before .args .rec)
-    ≡ replacedOf (restOf (drop 1 (now (c .before .before .before .before .before .before .before .args .ins))) (c .before .before .before .before .before .before .before .args .rec)) (now (c .before .before .before .before .before .before .before .args .ins)) (c .before .before .before .before .before .before .before .args .rec)
+    → let s = c .before .before .before .before .before .before .before .args in
+    let l = now (s .ins) in
+    prefixOf (restOf (drop 1 l) (s .rec)) l (s .rec) ≡ replacedOf (restOf (drop 1 l) (s .rec)) l (s .rec)
 unfolding prefixOf
 past-tests t c = rw (sym (c .before .before .before .before .is-prefix .ensures) ∙ not-false _ (c .before .before .before .if1 .left), ne-eqb _ _ (c .before .if2 .left), ne-eqb _ _ (c .if3 .left))
 
 -- what the call of the stages gave
 rest-told :
     (t : ℕ) (c : prefix-lts.After-disas-ref (prefix-told t) (prefix-at t) prefix.Post)
-    → c .disas-ref .result ≡ restOf (drop 1 (now (c .before .before .before .before .before .before .before .before .before .args .ins))) (c .before .before .before .before .before .before .before .before .before .args .rec)
+    → let s = c .before .before .before .before .before .before .before .before .before .args in c .disas-ref .result ≡ restOf (drop 1 (now (s .ins))) (s .rec)
 rest-told t c = let s = c .before .before .before .before .before .before .before .before .before in c .disas-ref .ensures ∙ rest-is (now (s .args .ins)) (s .args .rec) (s .pre .1)
 
 not-prefixed : (t : ℕ) → prefix-lts.Need-returns (prefix-told t) (prefix-at t) prefix.Post
@@ -92,24 +93,24 @@ handed s = prefixOf (restOf (drop 1 (now (s .args .ins))) (s .args .rec)) (now (
 -- what the first stage is asked of is the first byte
 one-told :
     (t : ℕ) (c : stages-lts.After-one-byte (stages-told t) (stages-at t) stages.Post)
-    → c .one-byte .result ≡ answer (ofLength 1 (getD plain (first (now (c .before .before .before .before .args .ins))) gap)) [] (c .before .before .before .before .args .rec)
+    → let s = c .before .before .before .before .args in c .one-byte .result ≡ answer (ofLength 1 (getD plain (first (now (s .ins))) gap)) [] (s .rec)
 one-told t c = c .one-byte .ensures
 
 past-one :
     (t : ℕ) (c : stages-lts.Else2 (stages-told t) (stages-at t) stages.Post)
-    → decoderOf (now (c .before .before .before .before .before .args .ins)) (c .before .before .before .before .before .args .rec) ≡ fromTwo (handed (c .before .before .before .before .before)) (now (c .before .before .before .before .before .args .ins)) (c .before .before .before .before .before .args .rec)
+    → let s = c .before .before .before .before .before in decoderOf (now (s .args .ins)) (s .args .rec) ≡ fromTwo (handed s) (now (s .args .ins)) (s .args .rec)
 unfolding chainOf
 past-one t c = rw (ne-eqb _ _ (c .before .before .before .if1 .left), ← one-told t (c .before), c .if2 .left)
 
 past-two :
     (t : ℕ) (c : stages-lts.Else4 (stages-told t) (stages-at t) stages.Post)
-    → decoderOf (now (c .before .before .before .before .before .before .before .before .before .args .ins)) (c .before .before .before .before .before .before .before .before .before .args .rec) ≡ fromThree (handed (c .before .before .before .before .before .before .before .before .before)) (now (c .before .before .before .before .before .before .before .before .before .args .ins)) (c .before .before .before .before .before .before .before .before .before .args .rec)
+    → let s = c .before .before .before .before .before .before .before .before .before in decoderOf (now (s .args .ins)) (s .args .rec) ≡ fromThree (handed s) (now (s .args .ins)) (s .args .rec)
 unfolding fromTwo
 past-two t c = rw (past-one t (c .before .before .before .before), le-ltb _ _ (c .before .before .before .if3 .left), ← c .before .two-bytes .ensures, c .if4 .left)
 
 past-three :
     (t : ℕ) (c : stages-lts.Else7 (stages-told t) (stages-at t) stages.Post)
-    → decoderOf (now (c .before .before .before .before .before .before .before .before .before .before .before .before .before .before .args .ins)) (c .before .before .before .before .before .before .before .before .before .before .before .before .before .before .args .rec) ≡ fromFour (handed (c .before .before .before .before .before .before .before .before .before .before .before .before .before .before)) (now (c .before .before .before .before .before .before .before .before .before .before .before .before .before .before .args .ins))
+    → let s = c .before .before .before .before .before .before .before .before .before .before .before .before .before .before in decoderOf (now (s .args .ins)) (s .args .rec) ≡ fromFour (handed s) (now (s .args .ins))
 unfolding fromThree
 past-three t c = rw (past-two t (c .before .before .before .before .before), le-ltb _ _ (c .before .before .before .before .if5 .left), ← c .before .before .three-bytes .ensures, c .before .if6 .left, le-ltb (length (now (c .before .before .before .before .before .before .before .before .before .before .before .before .before .before .args .ins))) 4 (omega arith))
 

@@ -12,7 +12,7 @@ use Rattle.disas.proofs.disas.Statement.{statement}
 use Rattle.disas.proofs.disas.Tie as tie
 
 -- what the stages gave is what the table says
-told : (c : tie.After-disas-ref) → c .disas-ref .result ≡ staged (decodeOf (now (c .before .before .before .before .before .before .args .ins))) (fresh (four (now (c .before .before .before .before .before .before .args .ins))))
+told : (c : tie.After-disas-ref) → let l = now (c .before .before .before .before .before .before .args .ins) in c .disas-ref .result ≡ staged (decodeOf l) (fresh (four l))
 told c =
     (rw (c .before .before .new .ensures, c .before .ins-to-data .ensures) at (c .disas-ref .ensures))
     ∙ decoder-agrees (now (c .before .before .before .before .before .before .args .ins)) (λ k. c .before .before .before .before .before .shared-slice-known .given k .fits) (omega arith)
