@@ -1,5 +1,6 @@
 pub mod Upto
 pub mod Pages
+pub mod Rows
 pub mod Bits
 pub mod Signed
 pub mod Departures

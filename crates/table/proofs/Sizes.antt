@@ -5,7 +5,7 @@ use mathlib.Core.Bool.{Bool, true, false, _&&_}
 use mathlib.Core.List.{List, [], _∷_}
 use Prim.Native.Nat.{ℕ, zero, suc, _<_, _≤_}
 use native.Mathlib.Omega.{arith}
-use lib.Dec.{T, eqb, ltb, leb, leb→le, ltb→lt}
+use lib.Dec.{T, ltb, leb, leb→le, ltb→lt}
 use native.Mathlib.Nat.{le-of-suc-le-suc, le-trans}
 use lib.ListN.{length, getD, List·getD-eq-default}
 use Rattle.opcode.specs.declared.counts.TStates.{TStates}
@@ -19,10 +19,11 @@ use Rattle.table.specs.Departures.{oneFigure, ed-behind, needed, neededB
 use Rattle.table.specs.Plain.{plain}
 use Rattle.table.specs.Cb.{cb}
 use Rattle.table.specs.Ed.{ed}
-use Rattle.table.specs.Prefix.{prefixRow, bitRow, behindRow}
-use Rattle.table.specs.Decode.{isPrefix, pageRow, rowOf, operandBytes, made, recordOf, four, neededOf, decodeOf}
+use Rattle.table.specs.Prefix.{prefixRow, bitRow}
+use Rattle.table.specs.Decode.{isPrefix, rowOf, operandBytes, made, recordOf, four, neededOf, decodeOf}
 use Rattle.table.specs.Consequences.{Keeps, total}
-use Rattle.table.proofs.Pages.{both-left, both-right, every, at-code, chosen}
+use Rattle.table.proofs.Pages.{both-left, both-right, every, chosen}
+use Rattle.table.proofs.Rows.{Everywhere, row-holds}
 use Rattle.table.proofs.Done.{decides, decided}
 
 -- each machine cycle has T-states
@@ -41,17 +42,9 @@ sized (row i x y z n t) = leb 1 n && (leb n 4 && timed (oneFigure t))
 abbrev Sized : Row → Type 0
 Sized x = T (sized x)
 
-plain-sized : T (every sized plain)
-unfolding plain
-plain-sized = tt
-
-cb-sized : T (every sized cb)
-unfolding cb
-cb-sized = tt
-
-ed-sized : T (every sized ed)
-unfolding ed
-ed-sized = tt
+bit-sized : (i : Index) (c : ℕ) (x : Row) → Sized (bitRow i c x)
+bit-sized i c gap = tt
+bit-sized i c (row ins x y z n t) = chosen Sized (ltb c 0x40) _ _ tt (chosen Sized (ltb c 0x80) _ _ tt tt)
 
 behind-plain-sized : (i : Index) → T (every (λ (x : Row). sized (prefixRow i x)) plain)
 unfolding plain
@@ -63,31 +56,22 @@ unfolding ed
 behind-ed-sized ix = tt
 behind-ed-sized iy = tt
 
-bit-sized : (i : Index) (c : ℕ) (x : Row) → Sized (bitRow i c x)
-bit-sized i c gap = tt
-bit-sized i c (row ins x y z n t) = chosen Sized (ltb c 0x40) _ _ tt (chosen Sized (ltb c 0x80) _ _ tt tt)
-
-behind-sized : (i : Index) (b1 b2 b3 : ℕ) → Sized (behindRow i b1 b2 b3)
-unfolding behindRow
-behind-sized i b1 b2 b3 =
-    chosen Sized (eqb b1 0xCB) _ _ (bit-sized i b3 (getD cb b3 gap))
-    (chosen Sized (eqb b1 0xEB) _ _ tt
-    (chosen Sized (eqb b1 0x36) _ _ tt
-    (chosen Sized (eqb b1 0xED) _ _
-    (at-code (λ (x : Row). sized (prefixRow i (ed-behind x))) ed (behind-ed-sized i) tt b2)
-    (at-code (λ (x : Row). sized (prefixRow i x)) plain (behind-plain-sized i) tt b1))))
-
-page-sized : (b0 b1 : ℕ) → Sized (pageRow b0 b1)
-unfolding pageRow
-page-sized b0 b1 =
-    chosen Sized (eqb b0 0xCB) _ _ (at-code sized cb cb-sized tt b1)
-    (chosen Sized (eqb b0 0xED) _ _ (at-code sized ed ed-sized tt b1) (at-code sized plain plain-sized tt b0))
+all-sized : Everywhere sized
+unfolding plain cb ed
+all-sized =
+    record {
+      none = tt;
+      on-plain = tt;
+      on-cb = tt;
+      on-ed = tt;
+      behind-plain = behind-plain-sized;
+      behind-ed = behind-ed-sized;
+      load = λ i. tt;
+      bit = λ i c. bit-sized i c (getD cb c gap);
+    }
 
 row-sized : (s : List ℕ) → Sized (rowOf s)
-unfolding rowOf
-row-sized s =
-    chosen Sized (eqb (getD s 0 0) 0xDD) _ _ (behind-sized ix (getD s 1 0) (getD s 2 0) (getD s 3 0))
-    (chosen Sized (eqb (getD s 0 0) 0xFD) _ _ (behind-sized iy (getD s 1 0) (getD s 2 0) (getD s 3 0)) (page-sized (getD s 0 0) (getD s 1 0)))
+row-sized s = row-holds sized all-sized s
 
 length-states : (ts : List ℕ) → length (states ts) ≡ length ts
 length-states [] = refl

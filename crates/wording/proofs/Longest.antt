@@ -1,0 +1,145 @@
+-- No text of a decoded record is longer than 52 bytes, and one is 52 long. A row's text is longest where each byte behind its code is 80 hex, -128: one computed test over the rows at these bytes is then enough.
+-- Assumes nothing.
+use mathlib.Core.Path.{_≡_, refl, sym, ap, subst}
+use mathlib.Core.Bool.{Bool, true, _&&_, _||_}
+use mathlib.Core.List.{List, [], _∷_, _++_}
+use Prim.Native.Nat.{ℕ, zero, suc, min, _+_, _*_, _≤_, _<_}
+use native.Mathlib.Nat.{le-refl, le-trans}
+use native.Mathlib.Omega.{arith}
+use lib.Dec.{T, eqb, ltb, leb, leb→le}
+use lib.ListN.{length, take, drop, getD, length-append, length-take}
+use borrow.Author.Tests.{leb-true}
+use Rattle.opcode.specs.declared.instruction.Instruction.{Instruction}
+use Rattle.opcode.specs.declared.operand.Place.{Place}
+use Rattle.opcode.specs.declared.record.OpCode.{OpCode}
+use Rattle.table.specs.declared.Answer.{Answer}
+use Rattle.table.specs.declared.Decoded.{Decoded}
+use Rattle.table.specs.Signed.{signedOf, relativeOf}
+use Rattle.table.specs.Row.{Index, ix, iy, Kind, none, is, hl, h, l, at-hl, byte, word, at-word, at-port, rel, at-index, byte-behind, Cycles, Row, row, gap, t1, read}
+use Rattle.table.specs.Departures.{ed-behind}
+use Rattle.table.specs.Plain.{plain}
+use Rattle.table.specs.Cb.{cb}
+use Rattle.table.specs.Ed.{ed}
+use Rattle.table.specs.Prefix.{bitRow, behindRow}
+use Rattle.table.specs.Decode.{isPrefix, rowOf, operandBytes, made, recordOf, four, decodeOf}
+use Rattle.table.specs.Consequences.{values, AllBytes}
+use Rattle.table.proofs.Upto.{agree}
+use Rattle.table.proofs.Pages.{every, at-code, chosen, both-left, both-right}
+use Rattle.table.proofs.Rows.{Everywhere, row-holds}
+use Rattle.table.proofs.Done.{decides}
+use Rattle.wording.specs.Ascii.{ascii}
+use Rattle.wording.specs.Digits.{hex8, hex16, decimal, digitAt, signed}
+use Rattle.wording.specs.Names.{names, nameOf, reg8Names, reg8Text, reg16Names, reg16Text, conditionNames, conditionText}
+use Rattle.wording.specs.Text.{operandText, placeText, each, byteText, plainText, fullText}
+
+-- the bytes behind the code at which a row's text is longest, and data as long as any
+abbrev lowest : List ℕ
+lowest = 0x80 ∷ 0x80 ∷ []
+
+abbrev zeros : List ℕ
+zeros = 0 ∷ 0 ∷ 0 ∷ 0 ∷ []
+
+-- at 80 hex a signed byte and a relative operand are as long as at any byte
+signed-all : values (λ (b : ℕ). leb (length (signed (signedOf b))) (length (signed (signedOf 0x80)))) 0 256 ≡ values (λ (b : ℕ). true) 0 256
+unfolding signed decimal digitAt signedOf
+signed-all = refl
+
+relative-all : values (λ (b : ℕ). leb (length (signed (relativeOf b))) (length (signed (relativeOf 0x80)))) 0 256 ≡ values (λ (b : ℕ). true) 0 256
+unfolding signed decimal digitAt relativeOf signedOf
+relative-all = refl
+
+signed-most : (b : ℕ) → b < 256 → length (signed (signedOf b)) ≤ length (signed (signedOf 0x80))
+signed-most b fits = leb-true _ _ (agree (λ (b : ℕ). leb (length (signed (signedOf b))) (length (signed (signedOf 0x80)))) (λ (b : ℕ). true) true 256 signed-all b fits)
+
+relative-most : (b : ℕ) → b < 256 → length (signed (relativeOf b)) ≤ length (signed (relativeOf 0x80))
+relative-most b fits = leb-true _ _ (agree (λ (b : ℕ). leb (length (signed (relativeOf b))) (length (signed (relativeOf 0x80)))) (λ (b : ℕ). true) true 256 relative-all b fits)
+
+module _ (before s : List ℕ) (bytes : AllBytes s) where
+  place-most : (k : Kind) → length (placeText before (read k s)) ≤ length (placeText before (read k lowest))
+  unfolding hex8 hex16
+  place-most none = le-refl _
+  place-most (is o) = le-refl _
+  place-most hl = le-refl _
+  place-most h = le-refl _
+  place-most l = le-refl _
+  place-most at-hl = le-refl _
+  place-most byte = simp length-append (omega arith)
+  place-most word = simp length-append (omega arith)
+  place-most at-word = simp length-append (omega arith)
+  place-most at-port = simp length-append (omega arith)
+  place-most rel = simp length-append (omega (arith, relative-most (getD s 0 0) (bytes 0)))
+  place-most (at-index ix) = simp length-append (omega (arith, signed-most (getD s 0 0) (bytes 0)))
+  place-most (at-index iy) = simp length-append (omega (arith, signed-most (getD s 0 0) (bytes 0)))
+  place-most byte-behind = simp length-append (omega arith)
+
+-- three characters a byte
+bytes-length : (s : List ℕ) → length (each byteText s) ≡ 3 * length s
+unfolding hex8
+bytes-length [] = refl
+bytes-length (b ∷ s) = omega (arith, bytes-length s)
+
+made-most : (ins : Instruction) (x y z : Kind) (n : ℕ) (t : Cycles) (s d : List ℕ) → AllBytes s → length d ≡ 4 → length (fullText (made ins x y z n t s d)) ≤ length (fullText (made ins x y z n t lowest zeros))
+unfolding fullText plainText
+made-most ins x y z n t s d bytes size =
+    simp length-append
+    (omega (arith, place-most [] s bytes x, place-most (ascii ", ") s bytes y, place-most (ascii ", ") s bytes z, bytes-length (take n d), bytes-length (take n zeros), length-take n d, length-take n zeros))
+
+row-most : (x : Row) (s d : List ℕ) → AllBytes s → length d ≡ 4 → length (fullText (recordOf x s d)) ≤ length (fullText (recordOf x lowest zeros))
+row-most gap s d bytes size = made-most Instruction.NOP none none none 1 (t1 4) s d bytes size
+row-most (row ins x y z n t) s d bytes size = made-most ins x y z n t s d bytes size
+
+-- the test: at most 52
+abbrev fits : Row → Bool
+fits x = leb (length (fullText (recordOf x lowest zeros))) 52
+
+-- a row of the CB page behind DD or FD, whichever of the three forms its code picks
+abbrev bit-test : Index → Row → Bool
+bit-test i x = fits (bitRow i 0 x) && (fits (bitRow i 0x40 x) && fits (bitRow i 0x80 x))
+
+bit-fits : (i : Index) (c : ℕ) (x : Row) → T (bit-test i x) → T (fits (bitRow i c x))
+bit-fits i c gap w = both-left (fits gap) _ w
+bit-fits i c (row ins x y z n t) w =
+    let a = fits (bitRow i 0 (row ins x y z n t)) in
+    let b = fits (bitRow i 0x40 (row ins x y z n t)) in
+    let rest = both-right a _ w in
+    chosen (λ (r : Row). T (fits r)) (ltb c 0x40) _ _ (both-left a _ w)
+    (chosen (λ (r : Row). T (fits r)) (ltb c 0x80) _ _ (both-left b _ rest) (both-right b _ rest))
+
+all-fit : Everywhere fits
+unfolding plain cb ed fullText plainText hex8 hex16 decimal digitAt signed signedOf relativeOf nameOf names reg8Text reg8Names reg16Text reg16Names conditionText conditionNames
+all-fit =
+    record {
+      none = tt;
+      on-plain = tt;
+      on-cb = tt;
+      on-ed = tt;
+      behind-plain = λ i. elim i [ ix ↦ tt | iy ↦ tt ];
+      behind-ed = λ i. elim i [ ix ↦ tt | iy ↦ tt ];
+      load = λ i. elim i [ ix ↦ tt | iy ↦ tt ];
+      bit = λ i c. bit-fits i c (getD cb c gap) (at-code (bit-test i) cb (elim i [ ix ↦ tt | iy ↦ tt ]) tt c);
+    }
+
+-- bytes stay bytes behind the first ones
+drop-bytes : (n : ℕ) (s : List ℕ) → AllBytes s → AllBytes (drop n s)
+drop-bytes zero s bytes = bytes
+drop-bytes (suc n) [] bytes = bytes
+drop-bytes (suc n) (b ∷ s) bytes = drop-bytes n s (λ k. bytes (suc k))
+
+behind-bytes : (s : List ℕ) → AllBytes s → AllBytes (operandBytes s)
+behind-bytes s bytes = chosen AllBytes (isPrefix (getD s 0 0) || (eqb (getD s 0 0) 0xCB || eqb (getD s 0 0) 0xED)) (drop 2 s) (drop 1 s) (drop-bytes 2 s bytes) (drop-bytes 1 s bytes)
+
+module _ (s : List ℕ) (bytes : AllBytes s) (done : decodeOf s .answer ≡ Answer.Done) where
+  pub full-most : length (fullText (decodeOf s .rec)) ≤ 52
+  full-most =
+      let x = rowOf s in
+      rw (ap (λ (d : Decoded). d .rec) (decides s done .made))
+      (le-trans (row-most x (operandBytes s) (four s) (behind-bytes s bytes) refl) (leb→le (length (fullText (recordOf x lowest zeros))) 52 (row-holds fits all-fit s)))
+
+  pub plain-most : length (plainText (decodeOf s .rec)) ≤ 52
+  unfolding fullText
+  plain-most = let h = simp length-append at full-most in omega arith
+
+-- DD CB 80 C7 is SET 00, (IX-128), A: its full text has 52 bytes
+pub full-reached : length (fullText (decodeOf (0xDD ∷ 0xCB ∷ 0x80 ∷ 0xC7 ∷ []) .rec)) ≡ 52
+unfolding decodeOf rowOf behindRow cb fullText plainText hex8 hex16 decimal digitAt signed signedOf nameOf names reg8Text reg8Names reg16Text reg16Names
+full-reached = refl
