@@ -1,30 +1,15 @@
--- Two's complement from the test below zero, at any width, and lists of a known length. Assumes nothing.
+-- Lists of a known length, one by one. Assumes nothing.
 use mathlib.Core.Path.{_≡_, refl, ap, _∙_}
-use mathlib.Core.Bool.{true, false, true≢false}
 use mathlib.Core.List.{List, [], _∷_, _++_}
-use Prim.Native.Nat.{ℕ, zero, suc, _-_, _^_}
+use Prim.Native.Nat.{ℕ, zero, suc}
 use native.Mathlib.Omega.{arith}
-use lib.IntN.{ℤ, pos, negsuc}
 use lib.ListN.{length, getD}
-use lib.Signed.{mag, ltZ}
-use mir.Syntax.{Width}
-use mir.Val.{SFits, bits, toZ, ofZ}
-use mir.ValLaws.{toZ-pos, toZ-neg, pow-bits}
-use borrow.Author.Tests.{ltb-true}
 use Rattle.opcode.specs.declared.counts.TStates.{TStates}
 use Rattle.opcode.specs.declared.operand.Place.{Place}
 use Rattle.opcode.specs.declared.record.OpCode.{OpCode}
 use Rattle.opcode.specs.Record.{unfilled}
-use Rattle.layout.specs.Layout.{complementOf, instructionOf, placeOf, statesOf, layoutOf}
-
--- a number below zero: its bits turned over are how far it is below -1
-pub below : (w : Width) (z : ℤ) → SFits w z → ltZ (toZ w (ofZ w z)) (pos 0) ≡ true → (toZ w (2 ^ bits w - 1 - ofZ w z) ≡ pos (mag z)) × ((top : ℕ) → complementOf top z ≡ top - mag z)
-below w (pos n) f t = let h = ltb-true n 0 (rw (toZ-pos w n (f .sfits)) at t) in absurd (omega arith)
-below w (negsuc n) f t = (ap (toZ w) (omega (arith, f .sfits, pow-bits w)) ∙ toZ-pos w n (f .sfits), λ top. refl)
-
-pub above : (w : Width) (z : ℤ) → SFits w z → ltZ (toZ w (ofZ w z)) (pos 0) ≡ false → (toZ w (ofZ w z) ≡ pos (mag z)) × ((top : ℕ) → complementOf top z ≡ mag z)
-above w (pos n) f t = (toZ-pos w n (f .sfits), λ top. refl)
-above w (negsuc n) f t = absurd (true≢false (rw (toZ-neg w n (f .sfits)) at t))
+use Rattle.wording.specs.Names.{instructionOf}
+use Rattle.layout.specs.Layout.{placeOf, statesOf, layoutOf}
 
 -- the n elements of l from the k-th on, in front of r
 abbrev pub each : List ℕ → ℕ → ℕ → List ℕ → List ℕ

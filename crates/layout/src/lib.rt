@@ -1,11 +1,10 @@
 // A record as the 22 bytes that a host reads: length; instruction; three operand places of kind, value low and value
 // high; four data bytes; six T-states; machine cycles.
-mod names;
 mod operand;
 
 ghost use mathlib.Core.Path.{_≡_};
 ghost use Rattle.layout.specs.Layout.{statesOf, layoutOf};
-use names::instruction_number;
+use names::numbers::instruction_number;
 use opcode::counts::TStates;
 use opcode::record::OpCode;
 use operand::place;

@@ -1,9 +1,9 @@
 // An operand place as three bytes: kind, value low, value high.
 ghost use mathlib.Core.Path.{_≡_};
 ghost use Rattle.layout.specs.Layout.{complementOf, indexOf, kindOf, valueOf, placeOf};
-use super::names::condition_number;
-use super::names::reg8_number;
-use super::names::reg16_number;
+use names::numbers::condition_number;
+use names::numbers::reg8_number;
+use names::numbers::reg16_number;
 use opcode::operand::Operand;
 use opcode::operand::Place;
 use opcode::registers::RegI;
