@@ -1,0 +1,3 @@
+pub mod Widen
+pub mod Each
+pub mod Times
