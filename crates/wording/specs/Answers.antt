@@ -2,7 +2,7 @@
 use Prim.Native.Nat.{ℕ}
 use mathlib.Core.Bool.{cond}
 use mathlib.Core.List.{List, _++_}
-use lib.Dec.{eqb, leb}
+use lib.Dec.{leb}
 use lib.ListN.{length, drop}
 use Rattle.opcode.specs.declared.record.OpCode.{OpCode}
 use Rattle.table.specs.declared.Answer.{Answer}
@@ -25,17 +25,28 @@ countOf Written.Short = 0
 countOf Written.Long = 0
 countOf Written.NoRoom = 0
 
--- the decoder's refusals first; then NoRoom where the text t is longer than the lent bytes
+-- a text t to lent bytes: Done where it is no longer than they are, else NoRoom
+abbrev pub fitted : List ℕ → List ℕ → Written
+fitted t out = cond (leb (length t) (length out)) (Written.Done (length t)) Written.NoRoom
+
+-- the lent bytes then: on Done the text at the front and the bytes behind it as they were, on a refusal all as they were
+abbrev pub left : Written → List ℕ → List ℕ → List ℕ
+left (Written.Done n) t out = t ++ drop (length t) out
+left Written.Nothing t out = out
+left Written.Short t out = out
+left Written.Long t out = out
+left Written.NoRoom t out = out
+
+-- the decoder's refusals come before NoRoom
 abbrev pub answered : Answer → List ℕ → List ℕ → Written
-answered Answer.Done t out = cond (leb (length t) (length out)) (Written.Done (length t)) Written.NoRoom
+answered Answer.Done t out = fitted t out
 answered Answer.Nothing t out = Written.Nothing
 answered Answer.Short t out = Written.Short
 answered Answer.Long t out = Written.Long
 
--- the answer where `text` gives the text of a decoded record
+-- the answer, and the lent bytes then, where `text` gives the text of a decoded record
 abbrev pub textAnswer : (OpCode → List ℕ) → Decoded → List ℕ → Written
 textAnswer text d out = answered (d .answer) (text (d .rec)) out
 
--- 0, Done: the text at the front, and the bytes behind it as they were; on a refusal all as they were
 abbrev pub textBytes : (OpCode → List ℕ) → Decoded → List ℕ → List ℕ
-textBytes text d out = cond (eqb (numberOf (textAnswer text d out)) 0) (text (d .rec) ++ drop (length (text (d .rec))) out) out
+textBytes text d out = left (textAnswer text d out) (text (d .rec)) out
