@@ -4,7 +4,8 @@ use mathlib.Core.List.{List, [], _∷_, _++_}
 use Prim.Native.Nat.{ℕ, zero, suc, _+_, _≤_, _<_}
 use native.Mathlib.Numerals.{add-one}
 use native.Mathlib.Omega.{arith}
-use lib.ListN.{length, set, drop}
+use lib.ListN.{length, set, take, drop}
+use lib.Seq.{take-append-seam}
 use Rattle.writer.specs.Wrote.{over, behind, Wrote}
 
 over-one : (old : List ℕ) (i b : ℕ) → i < length old → (set old i b ≡ over old i (b ∷ [])) × (suc i ≡ behind old i (b ∷ []))
@@ -70,8 +71,11 @@ size {old} {new} {t} {i} p = ap length (p .bytes) ∙ over-length old i t
 
 -- a text that is written from the front, and fits, stands there; what it ends at is its length
 module _ {old t new : List ℕ} {j : ℕ} (p : Wrote old 0 t new j) (h : length t ≤ length old) where
-  pub whole : new ≡ t ++ drop (length t) old
+  whole : new ≡ t ++ drop (length t) old
   whole = p .bytes ∙ over-front old t h .0
 
   pub counted : j ≡ length t
   counted = p .place ∙ over-front old t h .1
+
+  pub front : take j new ≡ t
+  front = ap (take j) whole ∙ ap (λ (n : ℕ). take n (t ++ drop (length t) old)) counted ∙ take-append-seam t (drop (length t) old)

@@ -1,0 +1,41 @@
+-- `write` meets its contract: each arm knows the decoder's answer. Assumes nothing.
+use mathlib.Core.Path.{_≡_, refl, ap, sym, _∙_}
+use denote.Ref.{now}
+use Rattle.table.specs.declared.Decoded.{Decoded}
+use Rattle.text.proofs.Room.{text-most}
+use borrow.Author.Needs.{needs}
+use Rattle.text.proofs.write.Statement.{statement}
+use Rattle.text.proofs.write.Tie as tie
+
+give-chosen-requires : tie.Need-give-chosen-requires
+give-chosen-requires c κs =
+    let d = c .before .before .before .before .disas .ensures in
+    rw d (text-most (c .before .before .before .before .before .before .before .args .full) (now (c .before .before .before .before .before .before .before .args .ins)) (λ k. c .before .before .before .before .before .before .shared-slice-known .given k .fits) (rw d at (c .before .enum-told .given .1)))
+
+returns : tie.Need-returns
+returns c = rw (← c .before .before .before .before .before .before .before .disas .ensures, c .before .before .before .before .enum-told .given .1) (c .before .before .give-chosen .ensures)
+
+returns-2 : tie.Need-returns-2
+returns-2 c = rw (← c .before .before .before .disas .ensures, c .enum-told2 .given .1) (refl, refl)
+
+returns-3 : tie.Need-returns-3
+returns-3 c = rw (← c .before .before .before .disas .ensures, c .enum-told3 .given .1) (refl, refl)
+
+returns-4 : tie.Need-returns-4
+returns-4 c = rw (← c .before .before .before .disas .ensures, c .enum-told4 .given .1) (refl, refl)
+
+pub write-spec : {M : Type 1} → statement M
+write-spec =
+    tie.close
+    (tie.spec
+    (λ c κs. search needs)
+    (λ c. search needs)
+    give-chosen-requires
+    (λ c. search needs)
+    (λ c. search needs)
+    (λ c. search needs)
+    (λ c. search needs)
+    returns
+    returns-2
+    returns-3
+    returns-4)
