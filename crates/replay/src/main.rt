@@ -1,5 +1,5 @@
 // Replays the original's answers: for each request on standard input its line on standard output, as README.md says.
-use exports::z80_record;
+use exports::record::z80_record;
 use libc::STDIN_FILENO;
 use libc::STDOUT_FILENO;
 

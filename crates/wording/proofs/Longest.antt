@@ -27,10 +27,12 @@ use Rattle.table.proofs.Upto.{agree}
 use Rattle.table.proofs.Pages.{every, at-code, chosen, both-left, both-right}
 use Rattle.table.proofs.Rows.{Everywhere, row-holds}
 use Rattle.table.proofs.Done.{decides}
+use Rattle.wording.specs.declared.Written.{Written}
 use Rattle.wording.specs.Ascii.{ascii}
 use Rattle.wording.specs.Digits.{hex8, hex16, decimal, digitAt, signed}
 use Rattle.wording.specs.Names.{names, nameOf, reg8Names, reg8Text, reg16Names, reg16Text, conditionNames, conditionText}
 use Rattle.wording.specs.Text.{operandText, placeText, each, byteText, plainText, fullText}
+use Rattle.wording.specs.Answers.{countOf, answered, textAnswer}
 
 -- the bytes behind the code at which a row's text is longest, and data as long as any
 abbrev lowest : List ℕ
@@ -138,6 +140,20 @@ module _ (s : List ℕ) (bytes : AllBytes s) (done : decodeOf s .answer ≡ Answ
   pub plain-most : length (plainText (decodeOf s .rec)) ≤ 52
   unfolding fullText
   plain-most = let h = simp length-append at full-most in omega arith
+
+-- so is no count
+count-most : (a : Answer) (t out : List ℕ) → (a ≡ Answer.Done → length t ≤ 52) → countOf (answered a t out) ≤ 52
+count-most Answer.Done t out most = chosen (λ (w : Written). countOf w ≤ 52) (leb (length t) (length out)) _ _ (most refl) (omega arith)
+count-most Answer.Nothing t out most = omega arith
+count-most Answer.Short t out most = omega arith
+count-most Answer.Long t out most = omega arith
+
+module _ (s : List ℕ) (bytes : AllBytes s) (out : List ℕ) where
+  pub full-count : countOf (textAnswer fullText (decodeOf s) out) ≤ 52
+  full-count = count-most (decodeOf s .answer) (fullText (decodeOf s .rec)) out (full-most s bytes)
+
+  pub plain-count : countOf (textAnswer plainText (decodeOf s) out) ≤ 52
+  plain-count = count-most (decodeOf s .answer) (plainText (decodeOf s .rec)) out (plain-most s bytes)
 
 -- DD CB 80 C7 is SET 00, (IX-128), A: its full text has 52 bytes
 pub full-reached : length (fullText (decodeOf (0xDD ∷ 0xCB ∷ 0x80 ∷ 0xC7 ∷ []) .rec)) ≡ 52

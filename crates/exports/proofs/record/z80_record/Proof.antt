@@ -8,8 +8,8 @@ use lib.Seq.{take-all}
 use denote.Ref.{now}
 use borrow.Author.Needs.{needs}
 use borrow.Author.Tests.{eq-eqb, ne-eqb, lt-ltb, le-ltb}
-use Rattle.exports.proofs.z80_record.Statement.{statement}
-use Rattle.exports.proofs.z80_record.Tie as tie
+use Rattle.exports.proofs.record.z80_record.Statement.{statement}
+use Rattle.exports.proofs.record.z80_record.Tie as tie
 
 returns : tie.Need-returns
 returns c =

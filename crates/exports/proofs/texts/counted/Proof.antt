@@ -1,0 +1,24 @@
+-- `counted` meets its contract: a count of at most 52 is one of 32 bits. Assumes nothing.
+use native.Mathlib.Omega.{arith}
+use borrow.Author.Needs.{needs}
+use Rattle.exports.proofs.texts.counted.Statement.{statement}
+use Rattle.exports.proofs.texts.counted.Tie as tie
+
+cast-result : tie.Need-cast-result
+cast-result c = let most = rw (c .before .written .given .1) at (c .before .before .before .pre) in record { fits = omega arith }
+
+pub counted-spec : {M : Type 1} → statement M
+counted-spec =
+    tie.close
+    (tie.spec
+    (λ c. search needs)
+    cast-result
+    (λ c. search needs)
+    (λ c. search needs)
+    (λ c. search needs)
+    (λ c. search needs)
+    (λ c. search needs)
+    (λ c. search needs)
+    (λ c. search needs)
+    (λ c. search needs)
+    (λ c. search needs))

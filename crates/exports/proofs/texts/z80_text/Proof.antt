@@ -1,0 +1,21 @@
+-- `z80_text` meets its contract: number and count are those of the answer. Assumes nothing.
+use mathlib.Core.Path.{_≡_, ap, _∙_}
+use denote.Ref.{now}
+use Rattle.wording.specs.Answers.{numberOf, countOf}
+use Rattle.wording.proofs.Longest.{plain-count}
+use borrow.Author.Needs.{needs}
+use Rattle.exports.proofs.texts.z80_text.Statement.{statement}
+use Rattle.exports.proofs.texts.z80_text.Tie as tie
+
+counted-requires : tie.Need-counted-requires
+counted-requires c κs =
+    rw (c .before .before .text .ensures .0)
+    (plain-count (now (c .before .before .before .before .before .before .args .ins)) (λ k. c .before .before .before .before .before .shared-slice-known .given k .fits) (now (c .before .before .before .before .before .before .args .out)))
+
+returns : tie.Need-returns
+returns c =
+    let w = c .before .before .before .before .text .ensures in
+    (c .number .ensures ∙ ap numberOf (w .0), (c .before .counted .ensures ∙ ap countOf (w .0), w .1))
+
+pub z80-text-spec : {M : Type 1} → statement M
+z80-text-spec = tie.close (tie.spec (λ c κs. search needs) counted-requires (λ c κs. search needs) (λ c. search needs) returns)

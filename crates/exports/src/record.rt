@@ -1,0 +1,40 @@
+// The record of a row as bytes.
+ghost use mathlib.Core.Path.{_≡_};
+ghost use Rattle.table.specs.Decode.{numberOf, decodeOf};
+ghost use Rattle.exports.specs.Record.{recordNumber, recordBytes};
+use disas::disas;
+use layout::layout;
+use table::Answer;
+
+// The paper's number of an answer.
+fn number(answer: Answer) -> u8
+    ensures { λ n. ⌜ n ≡ numberOf answer ⌝ }
+{
+    match answer {
+        Answer::Done => 0,
+        Answer::Nothing => 1,
+        Answer::Short => 2,
+        Answer::Long => 3,
+    }
+}
+
+// Decodes `ins` and, where that is Done and 22 bytes are lent, writes the record to the front of `out`.
+#[no_mangle]
+pub extern "C" fn z80_record(ins: &[u8], out: &mut [u8]) -> u8
+    ensures number { λ n. ⌜ n ≡ recordNumber (decodeOf (now (ins .entry))) (now (out .entry)) ⌝ }
+    ensures bytes { λ _. ⌜ now (out .exit) ≡ recordBytes (decodeOf (now (ins .entry))) (now (out .entry)) ⌝ }
+{
+    let decoded = disas(ins);
+    let answer = decoded.answer;
+    let n = number(answer);
+    if n != 0 {
+        return n;
+    }
+    if out.len() < layout::SIZE {
+        return 4;
+    }
+    let rec = decoded.rec;
+    let fields = layout(rec);
+    bytes::copy(&fields, out);
+    0
+}
