@@ -1,15 +1,20 @@
 // The bridge between the comparison and the exported functions, where the machine is no x86-64: compiled by the kit for
 // x86-64, with no header at hand, and run under the kit's emulator. It reads calls on standard input, as
-// `Calls::request` writes them, and writes for each the answer number and the lent buffer as it is then.
+// `Calls::request` writes them, and writes for each the answer number, the lent count and the lent buffer as they are then.
 typedef unsigned char u8;
+typedef unsigned int u32;
 typedef unsigned long usize;
 typedef long isize;
 
 extern isize read(int, void *, usize);
 extern isize write(int, const void *, usize);
 extern u8 z80_record(const u8 *ins, usize ins_len, u8 *out, usize out_len);
+extern u8 z80_text(const u8 *ins, usize ins_len, u8 *out, usize out_len, u32 *count);
+extern u8 z80_full_text(const u8 *ins, usize ins_len, u8 *out, usize out_len, u32 *count);
 
-enum { LOOKED_AT = 40, LONGEST = 1024, PIPE = 65536 };
+// The functions by the numbers that `Function` of src/function.rs gives them.
+enum { RECORD, TEXT, FULL_TEXT };
+enum { COUNT = 4, LOOKED_AT = 56, LONGEST = 1024, PIPE = 65536 };
 
 static u8 asked[PIPE], said[PIPE];
 static usize asked_at, asked_end, said_end;
@@ -39,25 +44,37 @@ static int flush(void) {
     return 1;
 }
 
-// The k-th call, in a buffer filled as by `filled` of src/outcome.rs. An empty slice passes as a null pointer, through which
-// nothing may be read or written.
-static int call(const u8 *ins, usize len, usize room, usize k) {
-    if (PIPE - said_end < 1 + LOOKED_AT && !flush()) return 0;
-    u8 *number = said + said_end, *lent = number + 1;
+static u8 call(u8 function, const u8 *ins, usize len, u8 *out, usize room, u32 *count) {
+    switch (function) {
+    case RECORD: return z80_record(ins, len, out, room);
+    case TEXT: return z80_text(ins, len, out, room, count);
+    default: return z80_full_text(ins, len, out, room, count);
+    }
+}
+
+// The k-th call, with count and buffer filled as by `filled` of src/outcome.rs. An empty slice passes as a null pointer,
+// through which nothing may be read or written.
+static int answer(u8 function, const u8 *ins, usize len, usize room, usize k) {
+    if (PIPE - said_end < 1 + COUNT + LOOKED_AT && !flush()) return 0;
+    u8 *number = said + said_end, *counted = number + 1, *lent = counted + COUNT;
+    u32 count = 0xA5A50000 + k;
     for (usize place = 0; place < LOOKED_AT; place++) lent[place] = 31 * k + 7 * place + 1;
-    *number = z80_record(len ? ins : 0, len, room ? lent : 0, room);
-    said_end += 1 + LOOKED_AT;
+    *number = call(function, len ? ins : 0, len, room ? lent : 0, room, &count);
+    for (usize i = 0; i < COUNT; i++) counted[i] = count >> 8 * i;
+    said_end += 1 + COUNT + LOOKED_AT;
     return 1;
 }
 
 int main(void) {
-    u8 head[4], ins[LONGEST + 2];
-    while (get(head, 4)) {
-        usize room = head[0], free = head[1], fixed = head[2] | head[3] << 8;
-        if (room > LOOKED_AT || free > 2 || fixed > LONGEST || !get(ins, fixed)) return 1;
-        for (usize k = 0; k < 1ul << 8 * free; k++) {
-            for (usize i = 0; i < free; i++) ins[fixed + i] = k >> 8 * (free - 1 - i);
-            if (!call(ins, fixed + free, room, k)) return 1;
+    u8 head[5], ins[LONGEST + 2], rooms[256];
+    while (get(head, 5)) {
+        usize function = head[0], free = head[1], fixed = head[2] | head[3] << 8, sizes = head[4], k = 0;
+        if (function > FULL_TEXT || free > 2 || fixed > LONGEST || !get(ins, fixed) || !get(rooms, sizes)) return 1;
+        for (usize choice = 0; choice < 1ul << 8 * free; choice++) {
+            for (usize i = 0; i < free; i++) ins[fixed + i] = choice >> 8 * (free - 1 - i);
+            for (usize i = 0; i < sizes; i++, k++) {
+                if (rooms[i] > LOOKED_AT || !answer(function, ins, fixed + free, rooms[i], k)) return 1;
+            }
         }
     }
     return flush() ? 0 : 1;

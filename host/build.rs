@@ -1,4 +1,4 @@
-//! Where EXPORTS_DIR names the folder of libexports.a, for an x86-64, it is linked; elsewhere the bridge takes its place.
+//! Where EXPORTS_DIR names a folder with a libexports.a for this machine, that is linked; elsewhere the bridge takes its place.
 
 fn main() {
     println!("cargo:rerun-if-env-changed=EXPORTS_DIR");

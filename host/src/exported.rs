@@ -1,26 +1,52 @@
-//! The exported `z80_record`: linked in where the machine is an x86-64, elsewhere in a child process behind a bridge.
+//! The exported functions: linked in where their archive is for this machine, elsewhere in a child process behind a bridge.
 
 #[cfg(not(linked))]
 pub use bridge::Exported;
 #[cfg(linked)]
-pub use linked::{z80_record, Exported};
+pub use linked::{z80_full_text, z80_record, z80_text, Exported};
 
 #[cfg(linked)]
 mod linked {
-    use crate::outcome::{Buffer, Outcome};
+    use crate::function::Function;
+    use crate::outcome::{Call, Outcome};
     use std::io;
 
     mod sys {
-        // Nothing holds this line to crates/exports: each slice there is a pointer and a length here.
+        // Nothing holds these lines to crates/exports: each slice there is a pointer and a length here.
         extern "C" {
             pub fn z80_record(ins: *const u8, ins_len: usize, out: *mut u8, out_len: usize) -> u8;
+            pub fn z80_text(
+                ins: *const u8,
+                ins_len: usize,
+                out: *mut u8,
+                out_len: usize,
+                count: *mut u32,
+            ) -> u8;
+            pub fn z80_full_text(
+                ins: *const u8,
+                ins_len: usize,
+                out: *mut u8,
+                out_len: usize,
+                count: *mut u32,
+            ) -> u8;
         }
     }
 
-    /// The record of `ins` at the front of `out`, and the answer number. The two slices are apart and alive by their
-    /// types, which is all that the function asks of a caller.
+    // What is lent is apart and alive by its type, which is all that the functions ask of a caller.
+
+    /// The record of `ins` at the front of `out`, and the answer number.
     pub fn z80_record(ins: &[u8], out: &mut [u8]) -> u8 {
         unsafe { sys::z80_record(ins.as_ptr(), ins.len(), out.as_mut_ptr(), out.len()) }
+    }
+
+    /// The text of `ins` at the front of `out`, its length in `count`, and the answer number.
+    pub fn z80_text(ins: &[u8], out: &mut [u8], count: &mut u32) -> u8 {
+        unsafe { sys::z80_text(ins.as_ptr(), ins.len(), out.as_mut_ptr(), out.len(), count) }
+    }
+
+    /// The same for the full text.
+    pub fn z80_full_text(ins: &[u8], out: &mut [u8], count: &mut u32) -> u8 {
+        unsafe { sys::z80_full_text(ins.as_ptr(), ins.len(), out.as_mut_ptr(), out.len(), count) }
     }
 
     pub struct Exported;
@@ -30,10 +56,15 @@ mod linked {
             Ok(Exported)
         }
 
-        pub fn call(&mut self, ins: &[u8], room: usize, before: Buffer) -> io::Result<Outcome> {
-            let mut buffer = before;
-            let number = z80_record(ins, &mut buffer[..room]);
-            Ok(Outcome { number, buffer })
+        pub fn call(&mut self, call: &Call) -> io::Result<Outcome> {
+            let mut lent = call.before;
+            let (out, count) = (&mut lent.buffer[..call.room], &mut lent.count);
+            let number = match call.function {
+                Function::Record => z80_record(call.ins, out),
+                Function::Text => z80_text(call.ins, out, count),
+                Function::FullText => z80_full_text(call.ins, out, count),
+            };
+            Ok(Outcome { number, lent })
         }
 
         pub fn finish(self) -> io::Result<()> {
@@ -44,8 +75,8 @@ mod linked {
 
 #[cfg(not(linked))]
 mod bridge {
-    use crate::calls::runs;
-    use crate::outcome::{Buffer, Outcome, LOOKED_AT};
+    use crate::outcome::{Call, Lent, Outcome, LOOKED_AT};
+    use crate::runs::runs;
     use std::io::{self, BufReader, BufWriter, Read, Write};
     use std::process::{Child, ChildStdin, ChildStdout, Command, Stdio};
     use std::thread;
@@ -78,16 +109,16 @@ mod bridge {
             })
         }
 
-        /// The outcome of the next call of `runs`, which is the one given.
-        pub fn call(&mut self, _: &[u8], _: usize, _: Buffer) -> io::Result<Outcome> {
-            let mut bytes = [0; 1 + LOOKED_AT];
-            self.outcomes.read_exact(&mut bytes)?;
-            let mut buffer = [0; LOOKED_AT];
-            buffer.copy_from_slice(&bytes[1..]);
-            Ok(Outcome {
-                number: bytes[0],
-                buffer,
-            })
+        /// The outcome of the next call of `runs`, which is the one given: number, count low byte first, buffer.
+        pub fn call(&mut self, _: &Call) -> io::Result<Outcome> {
+            let (mut number, mut count, mut buffer) = ([0], [0; 4], [0; LOOKED_AT]);
+            self.outcomes.read_exact(&mut number)?;
+            self.outcomes.read_exact(&mut count)?;
+            self.outcomes.read_exact(&mut buffer)?;
+            let [number] = number;
+            let count = u32::from_le_bytes(count);
+            let lent = Lent { count, buffer };
+            Ok(Outcome { number, lent })
         }
 
         /// The bridge has no more to say and ended well.

@@ -15,4 +15,8 @@ impl Mixed {
         self.0 ^= self.0 << 5;
         (self.0 >> 24) as u8
     }
+
+    pub fn bytes(&mut self, count: usize) -> Vec<u8> {
+        (0..count).map(|_| self.byte()).collect()
+    }
 }

@@ -1,6 +1,9 @@
 //! The original's answers against document 01, worked out by hand.
 
-use host::answer::{answer, Answer};
+use host::answer::{decoded, Refusal};
+use host::function::Function::{FullText, Record, Text};
+use host::function::TEXT_MAX;
+use host::pages::{edged, ED_BEHIND, PAGES};
 
 /// The row; its bytes; length and instruction, three operand places, data, T-states, machine cycles.
 const STARRED_DONE: &str = "\
@@ -29,12 +32,47 @@ fn bytes(text: &str) -> Vec<u8> {
 fn starred_rows() {
     for row in STARRED_DONE.lines() {
         let fields: Vec<&str> = row.split('|').collect();
-        let record = bytes(fields[2]).try_into().unwrap();
-        assert_eq!(answer(&bytes(fields[1])), Answer::Done(record), "{row}");
+        let said = Record.said(&bytes(fields[1]));
+        assert_eq!(said, Ok(bytes(fields[2])), "{row}");
     }
-    assert_eq!(answer(&[0xDD, 0x23, 0x00]), Answer::Short);
-    assert_eq!(answer(&[0xED, 0x00, 0x00]), Answer::Short);
-    assert_eq!(answer(&[0; 5]), Answer::Long);
+    assert_eq!(decoded(&[0xDD, 0x23, 0x00]), Err(Refusal::Short));
+    assert_eq!(decoded(&[0xED, 0x00, 0x00]), Err(Refusal::Short));
+    assert_eq!(decoded(&[0; 5]), Err(Refusal::Long));
+}
+
+/// A row's bytes and its plain text, a tab written as >.
+const TEXTS: &str = "\
+00          | NOP> [4, 0, 0, 0, 0, 0]
+23          | INC>HL [6, 0, 0, 0, 0, 0]
+3E 05       | LD>A, 05 [4, 3, 0, 0, 0, 0]
+21 34 12    | LD>HL, 1234 [4, 3, 3, 0, 0, 0]
+3A 34 12    | LD>A, (1234) [4, 3, 3, 3, 0, 0]
+D3 05       | OUT>(05), A [4, 3, 4, 0, 0, 0]
+08          | EX>AF, AFp [4, 0, 0, 0, 0, 0]
+10 FE       | DJNZ>+0 [5, 3, 5, 0, 0, 0]
+18 80       | JR>-126 [4, 3, 5, 0, 0, 0]
+18 7F       | JR>+129 [4, 3, 5, 0, 0, 0]
+ED 70       | IN>A, (C), ignored [4, 4, 4, 0, 0, 0]
+DD 36 80 07 | LD>(IX-128), 07 [4, 4, 3, 5, 3, 0]";
+
+/// Document 01's forms, and the full text as it shows it: each byte 'XX ', two tabs, the plain text.
+#[test]
+fn texts() {
+    for row in TEXTS.lines() {
+        let (ins, text) = row.split_once('|').unwrap();
+        let plain = text.trim_start().replace('>', "\t");
+        let full = format!("{} \t\t{plain}", ins.trim_end());
+        assert_eq!(Text.said(&bytes(ins)), Ok(plain.into_bytes()), "{row}");
+        assert_eq!(FullText.said(&bytes(ins)), Ok(full.into_bytes()), "{row}");
+    }
+}
+
+#[test]
+fn longest_text() {
+    let pages = PAGES.iter().chain(&ED_BEHIND);
+    let inputs = pages.flat_map(|prefix| edged(prefix, 4));
+    let lengths = inputs.map(|ins| FullText.said(&ins).unwrap().len());
+    assert_eq!(lengths.max(), Some(TEXT_MAX));
 }
 
 /// The bytes that document 01 asks for before a row is decided.
@@ -70,7 +108,8 @@ fn short_exactly_below_the_bytes_needed() {
             for (length, rest) in [(1, 0x00), (2, 0x00), (3, 0x00), (3, 0xFF), (4, 0xFF)] {
                 let ins = &[first, second, rest, rest][..length];
                 let short = length < needed(first, second);
-                assert_eq!(answer(ins) == Answer::Short, short, "{ins:02X?}");
+                let refused = decoded(ins) == Err(Refusal::Short);
+                assert_eq!(refused, short, "{ins:02X?}");
             }
         }
     }
@@ -78,5 +117,5 @@ fn short_exactly_below_the_bytes_needed() {
 
 #[test]
 fn nothing_for_no_bytes() {
-    assert_eq!(answer(&[]), Answer::Nothing);
+    assert_eq!(decoded(&[]), Err(Refusal::Nothing));
 }

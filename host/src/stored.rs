@@ -1,0 +1,97 @@
+//! The stored requests and the original's answers to them, as the replaying programs read and print them.
+
+use crate::function::{Function, TEXT_MAX};
+use crate::inputs;
+use crate::outcome::{expected, Call, Lent, LOOKED_AT};
+use std::collections::HashSet;
+use std::fmt::Write;
+
+/// A request carries five bytes, those beyond its input zero.
+const REQUEST_BYTES: usize = 5;
+
+/// A request and the line that answers it.
+pub struct Row {
+    pub request: Vec<u8>,
+    pub line: Vec<u8>,
+}
+
+/// The folders of the programs under crates/, with their rows, none twice.
+pub fn folders() -> [(&'static str, Vec<Row>); 2] {
+    [("replay", records()), ("replay_texts", texts())].map(|(folder, mut rows)| {
+        let mut seen = HashSet::new();
+        rows.retain(|row| seen.insert(row.request.clone()));
+        (folder, rows)
+    })
+}
+
+fn records() -> Vec<Row> {
+    let inputs = inputs::of_records();
+    inputs.iter().map(|ins| record_row(ins)).collect()
+}
+
+/// Both texts of each input in a room that holds every text; then, of some, in every room up to two over their own length.
+fn texts() -> Vec<Row> {
+    let mut rows = vec![];
+    for ins in inputs::of_texts() {
+        for function in [Function::Text, Function::FullText] {
+            rows.push(text_row(function, &ins, TEXT_MAX));
+        }
+    }
+    for ins in inputs::in_every_room() {
+        for function in [Function::Text, Function::FullText] {
+            let own = function.said(ins).map_or(0, |text| text.len());
+            rows.extend((0..=own + 2).map(|room| text_row(function, ins, room)));
+        }
+    }
+    rows
+}
+
+/// The request: count and bytes. The line: bytes, number, and where that is 0 the record's bytes.
+fn record_row(ins: &[u8]) -> Row {
+    let mut line = shown(ins);
+    match Function::Record.said(ins) {
+        Ok(record) => {
+            line.push('0');
+            for byte in record {
+                write!(line, " {byte:02X}").unwrap();
+            }
+        }
+        Err(refusal) => write!(line, "{}", refusal as u8).unwrap(),
+    }
+    line.push('\n');
+    Row {
+        request: request(&[], ins),
+        line: line.into_bytes(),
+    }
+}
+
+/// The request: 0 for the plain text or 1 for the full one, room, count and bytes. The line: bytes, number, the text's
+/// length, and all of a buffer that was full of dots.
+fn text_row(function: Function, ins: &[u8], room: usize) -> Row {
+    let buffer = [b'.'; LOOKED_AT];
+    let call = Call {
+        function,
+        ins,
+        room,
+        before: Lent { count: 0, buffer },
+    };
+    let outcome = expected(&call, &function.said(ins));
+    let numbers = format!("{}{} {} ", shown(ins), outcome.number, outcome.lent.count);
+    let full = (function == Function::FullText) as u8;
+    Row {
+        request: request(&[full, room as u8], ins),
+        line: [numbers.as_bytes(), &outcome.lent.buffer, b"\n"].concat(),
+    }
+}
+
+fn request(head: &[u8], ins: &[u8]) -> Vec<u8> {
+    let mut bytes = [0; REQUEST_BYTES];
+    bytes[..ins.len()].copy_from_slice(ins);
+    [head, &[ins.len() as u8], &bytes].concat()
+}
+
+/// What each line begins with.
+fn shown(ins: &[u8]) -> String {
+    let pairs: String = ins.iter().map(|byte| format!("{byte:02X} ")).collect();
+    pairs + "= "
+}
