@@ -1,8 +1,9 @@
-//! The stored requests and the original's answers to them, as the replaying programs read and print them.
+//! The stored requests and the original's answers to them, as the program `replay` reads and prints them.
 
 use crate::function::{Function, TEXT_MAX};
 use crate::inputs;
 use crate::outcome::{expected, Call, Lent, LOOKED_AT};
+use crate::record::RECORD_SIZE;
 use std::collections::HashSet;
 use std::fmt::Write;
 
@@ -10,18 +11,18 @@ use std::fmt::Write;
 const REQUEST_BYTES: usize = 5;
 
 /// A request and the line that answers it.
+#[derive(Clone)]
 pub struct Row {
     pub request: Vec<u8>,
     pub line: Vec<u8>,
 }
 
-/// The folders of the programs under crates/, with their rows, none twice.
-pub fn folders() -> [(&'static str, Vec<Row>); 2] {
-    [("replay", records()), ("replay_texts", texts())].map(|(folder, mut rows)| {
-        let mut seen = HashSet::new();
-        rows.retain(|row| seen.insert(row.request.clone()));
-        (folder, rows)
-    })
+/// All rows, none twice.
+pub fn rows() -> Vec<Row> {
+    let mut rows = [records(), texts()].concat();
+    let mut seen = HashSet::new();
+    rows.retain(|row| seen.insert(row.request.clone()));
+    rows
 }
 
 fn records() -> Vec<Row> {
@@ -46,7 +47,7 @@ fn texts() -> Vec<Row> {
     rows
 }
 
-/// The request: count and bytes. The line: bytes, number, and where that is 0 the record's bytes.
+/// The line of a record: bytes, number, and where that is 0 the record's bytes.
 fn record_row(ins: &[u8]) -> Row {
     let mut line = shown(ins);
     match Function::Record.said(ins) {
@@ -60,13 +61,12 @@ fn record_row(ins: &[u8]) -> Row {
     }
     line.push('\n');
     Row {
-        request: request(&[], ins),
+        request: request(Function::Record, RECORD_SIZE, ins),
         line: line.into_bytes(),
     }
 }
 
-/// The request: 0 for the plain text or 1 for the full one, room, count and bytes. The line: bytes, number, the text's
-/// length, and all of a buffer that was full of dots.
+/// The line of a text: bytes, number, the text's length, and all of a buffer that was full of dots.
 fn text_row(function: Function, ins: &[u8], room: usize) -> Row {
     let buffer = [b'.'; LOOKED_AT];
     let call = Call {
@@ -77,17 +77,17 @@ fn text_row(function: Function, ins: &[u8], room: usize) -> Row {
     };
     let outcome = expected(&call, &function.said(ins));
     let numbers = format!("{}{} {} ", shown(ins), outcome.number, outcome.lent.count);
-    let full = (function == Function::FullText) as u8;
     Row {
-        request: request(&[full, room as u8], ins),
+        request: request(function, room, ins),
         line: [numbers.as_bytes(), &outcome.lent.buffer, b"\n"].concat(),
     }
 }
 
-fn request(head: &[u8], ins: &[u8]) -> Vec<u8> {
+/// The function's number, the room, the input's count and bytes.
+fn request(function: Function, room: usize, ins: &[u8]) -> Vec<u8> {
     let mut bytes = [0; REQUEST_BYTES];
     bytes[..ins.len()].copy_from_slice(ins);
-    [head, &[ins.len() as u8], &bytes].concat()
+    [&[function as u8, room as u8, ins.len() as u8], &bytes[..]].concat()
 }
 
 /// What each line begins with.

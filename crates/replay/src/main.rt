@@ -1,10 +1,17 @@
 // Replays the original's answers: for each request on standard input its line on standard output, as README.md says.
+ghost use Prim.Native.Nat.{_≤_};
+ghost use lib.ListN.{length};
 use exports::record::z80_record;
+use exports::texts::z80_full_text;
+use exports::texts::z80_text;
 use libc::STDIN_FILENO;
 use libc::STDOUT_FILENO;
 
-// A request: the count of input bytes, 0 to 5, then five bytes.
-const REQUEST_SIZE: usize = 6;
+// A request: what is asked for, the room lent, the count of input bytes, 0 to 5, then five bytes.
+const REQUEST_SIZE: usize = 8;
+
+// All of the buffer is printed with a text, also what stands behind the room lent.
+const BUFFER_SIZE: usize = 56;
 
 const DIGITS: [u8; 16] = *b"0123456789ABCDEF";
 
@@ -27,37 +34,70 @@ fn write_bytes(bytes: &[u8], before: &[u8], behind: &[u8]) {
     }
 }
 
-// The input bytes, the answer number, and the record when that is 0.
-fn write_line(ins: &[u8]) {
-    let mut record = [0u8; 22];
-    let number = z80_record(ins, &mut record);
+// The input bytes and the answer number.
+fn write_head(ins: &[u8], number: u8) {
     write_bytes(ins, b"", b" ");
     io::write_all(STDOUT_FILENO, &[b'=', b' ', digit(number)]);
+}
+
+// The record's bytes when the number is 0.
+fn write_record(ins: &[u8]) {
+    let mut record = [0u8; 22];
+    let number = z80_record(ins, &mut record);
+    write_head(ins, number);
     if number == 0 {
         write_bytes(&record, b" ", b"");
     }
-    io::write_all(STDOUT_FILENO, b"\n");
 }
 
-// Answers a whole request, unless it has fewer bytes than its count.
-fn answer(request: &[u8], count: u8) -> bool {
-    let end = (count as usize) + 1;
-    if request.len() < end {
+// The text asked for: 1 is the plain one, another number the full one.
+fn text(asked: u8, ins: &[u8], out: &mut [u8], count: &mut u32) -> u8 {
+    if asked == 1 {
+        return z80_text(ins, out, count);
+    }
+    z80_full_text(ins, out, count)
+}
+
+// The count, which begins as no text's, and the buffer as it is then.
+fn write_text(asked: u8, ins: &[u8], buffer: &mut [u8], room: usize)
+    requires { ⌜ room ≤ length (now buffer) ⌝ }
+{
+    let mut count = u32::MAX;
+    let number = text(asked, ins, &mut buffer[0..room], &mut count);
+    write_head(ins, number);
+    io::write_all(STDOUT_FILENO, b" ");
+    io::print_decimal(STDOUT_FILENO, count as u64);
+    io::write_all(STDOUT_FILENO, b" ");
+    io::write_all(STDOUT_FILENO, buffer);
+}
+
+// Answers a whole request, unless it has fewer bytes than its count or asks for more room than there is.
+fn answer(request: &[u8], asked: u8, room: u8, count: u8) -> bool {
+    let end = (count as usize) + 3;
+    if request.len() < end || BUFFER_SIZE < room as usize {
         return false;
     }
-    write_line(&request[1..end]);
+    if asked == 0 {
+        write_record(&request[3..end]);
+    } else {
+        let mut buffer = [b'.'; BUFFER_SIZE];
+        write_text(asked, &request[3..end], &mut buffer, room as usize);
+    }
+    io::write_all(STDOUT_FILENO, b"\n");
     true
 }
 
-// Answers the next request and says whether to go on: one that is cut off, or whose count is over five, ends the run.
+// Answers the next request and says whether to go on: one that is cut off or can't be answered ends the run.
 fn answer_next() -> bool {
     let mut request = [0u8; REQUEST_SIZE];
     let got = io::read_full(STDIN_FILENO, &mut request);
     if got < REQUEST_SIZE {
         return false;
     }
-    let count = request[0];
-    answer(&request, count)
+    let asked = request[0];
+    let room = request[1];
+    let count = request[2];
+    answer(&request, asked, room, count)
 }
 
 // A proved loop has to end, and nothing says that the input does: it counts down from a number that no run uses up.

@@ -1,6 +1,6 @@
 //! Writes the original's stored requests and answers, or holds the stored files to the original.
 
-use host::stored::{folders, Row};
+use host::stored::{rows, Row};
 use std::path::Path;
 use std::process::ExitCode;
 use std::{env, fs};
@@ -54,20 +54,19 @@ fn check(dir: &Path, rows: &[Row]) -> Result<(), String> {
 fn main() -> ExitCode {
     let arguments: Vec<String> = env::args().skip(1).collect();
     let words: Vec<&str> = arguments.iter().map(String::as_str).collect();
-    let (step, done, crates): (fn(&Path, &[Row]) -> _, _, _) = match words[..] {
-        ["write", crates] => (write, "written", crates),
-        ["check", crates] => (check, "checked", crates),
+    let (step, done, dir): (fn(&Path, &[Row]) -> _, _, _) = match words[..] {
+        ["write", dir] => (write, "written", dir),
+        ["check", dir] => (check, "checked", dir),
         _ => {
-            eprintln!("usage: answers write CRATES | answers check CRATES");
+            eprintln!("usage: answers write DIR | answers check DIR");
             return ExitCode::from(2);
         }
     };
-    for (folder, rows) in folders() {
-        if let Err(error) = step(&Path::new(crates).join(folder), &rows) {
-            eprintln!("answers: {error}");
-            return ExitCode::FAILURE;
-        }
-        println!("answers: {} rows of {folder} {done}", rows.len());
+    let rows = rows();
+    if let Err(error) = step(Path::new(dir), &rows) {
+        eprintln!("answers: {error}");
+        return ExitCode::FAILURE;
     }
+    println!("answers: {} rows {done}", rows.len());
     ExitCode::SUCCESS
 }
