@@ -10,12 +10,12 @@ use Rattle.writer.proofs.give.Statement.{statement}
 use Rattle.writer.proofs.give.Tie as tie
 
 returns : tie.Need-returns
-returns c = rw (lt-leb (length (now (c .before .before .before .args .text))) (length (now (c .before .before .before .args .out))) (c .if1 .taken)) (refl, refl)
+returns c = rw (lt-leb (length (now (c .before .before .before .args .text))) (length (now (c .before .before .before .args .out))) (omega arith)) (refl, refl)
 
 returns-2 : tie.Need-returns-2
 returns-2 c =
     let t = now (c .before .before .before .before .before .before .before .args .text) in
-    rw (le-leb (length t) (length (now (c .before .before .before .before .before .before .before .args .out))) (c .before .before .before .before .if1 .left))
+    rw (le-leb (length t) (length (now (c .before .before .before .before .before .before .before .args .out))) (omega arith))
     (refl, rw (take-all (length t) t (omega arith)) at (c .before .before .copy .ensures .1))
 
 pub give-spec : {M : Type 1} → statement M

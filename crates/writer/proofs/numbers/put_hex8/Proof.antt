@@ -7,7 +7,7 @@ use Rattle.writer.proofs.numbers.put_hex8.Tie as tie
 
 returns : tie.Need-returns
 unfolding hex8
-returns c = rw (← c .before .before .before .before .before .before .before .before .digit .ensures, ← c .before .before .before .digit2 .ensures) (c .before .before .before .before .before .before .before .put .ensures ▸ c .before .before .put2 .ensures)
+returns c = (rw (c .before .before .before .before .before .before .before .before .digit .ensures) at (c .before .before .before .before .before .before .before .put .ensures)) ▸ (rw (c .before .before .before .digit2 .ensures) at (c .before .before .put2 .ensures))
 
 pub put-hex8-spec : {M : Type 1} → statement M
 put-hex8-spec =
