@@ -1,5 +1,7 @@
 -- `counted` meets its contract: a count of at most 52 is one of 32 bits. Assumes nothing.
+use mathlib.Core.Path.{sym, ap}
 use native.Mathlib.Omega.{arith}
+use Rattle.wording.specs.Answers.{countOf}
 use borrow.Author.Needs.{needs}
 use Rattle.exports.proofs.texts.counted.Statement.{statement}
 use Rattle.exports.proofs.texts.counted.Tie as tie
@@ -18,7 +20,7 @@ counted-spec =
     (λ c. search needs)
     (λ c. search needs)
     (λ c. search needs)
-    (λ c. search needs)
-    (λ c. search needs)
-    (λ c. search needs)
-    (λ c. search needs))
+    (λ c. sym (ap countOf (c .enum-told .given .1)))
+    (λ c. sym (ap countOf (c .enum-told2 .given .1)))
+    (λ c. sym (ap countOf (c .enum-told3 .given .1)))
+    (λ c. sym (ap countOf (c .enum-told4 .given .1))))
