@@ -4,7 +4,7 @@ ghost use Prim.Native.Nat.{_≤_};
 ghost use lib.ListN.{length};
 ghost use Rattle.table.specs.Decode.{decodeOf};
 ghost use Rattle.wording.specs.Text.{plainText, fullText};
-ghost use Rattle.wording.specs.Answers.{fitted, left, textAnswer, textBytes};
+ghost use Rattle.wording.specs.Answers.{fitted, leaves, textAnswer, textBytes};
 ghost use Rattle.writer.specs.Wrote.{Wrote};
 ghost use Rattle.text.specs.Chosen.{textOf};
 use disas::disas;
@@ -30,7 +30,7 @@ fn put_chosen(buf: &mut [u8], rec: OpCode, full: bool) -> usize
 fn give_chosen(rec: OpCode, full: bool, out: &mut [u8]) -> Written
     requires { ⌜ length (textOf full rec) ≤ 52 ⌝ }
     ensures answer { λ w. ⌜ w ≡ fitted (textOf full rec) (now (out .entry)) ⌝ }
-    ensures bytes { λ _. ⌜ now (out .exit) ≡ left (fitted (textOf full rec) (now (out .entry))) (textOf full rec) (now (out .entry)) ⌝ }
+    ensures bytes { λ _. ⌜ now (out .exit) ≡ leaves (fitted (textOf full rec) (now (out .entry))) (textOf full rec) (now (out .entry)) ⌝ }
 {
     let mut line = [0u8; OpCode::TEXT_MAX];
     let n = put_chosen(&mut line, rec, full);

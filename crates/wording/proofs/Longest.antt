@@ -1,22 +1,20 @@
--- No text of a decoded record is longer than 52 bytes, and one is 52 long. A row's text is longest where each byte behind its code is 80 hex, -128: one computed test over the rows at these bytes is then enough.
+-- No text of a decoded record is longer than 52 bytes, and one is 52 long. A row's text is longest where each byte behind its code is 80 hex, so one computed test over the rows at these bytes is enough.
 -- Assumes nothing.
-use mathlib.Core.Path.{_≡_, refl, sym, ap, subst}
+use mathlib.Core.Path.{_≡_, refl, ap}
 use mathlib.Core.Bool.{Bool, true, _&&_, _||_}
-use mathlib.Core.List.{List, [], _∷_, _++_}
-use Prim.Native.Nat.{ℕ, zero, suc, min, _+_, _*_, _≤_, _<_}
+use mathlib.Core.List.{List, [], _∷_}
+use Prim.Native.Nat.{ℕ, zero, suc, _*_, _≤_, _<_}
 use native.Mathlib.Nat.{le-refl, le-trans}
 use native.Mathlib.Omega.{arith}
 use lib.Dec.{T, eqb, ltb, leb, leb→le}
+use lib.IntN.{ℤ}
 use lib.ListN.{length, take, drop, getD, length-append, length-take}
 use borrow.Author.Tests.{leb-true}
 use Rattle.opcode.specs.declared.instruction.Instruction.{Instruction}
-use Rattle.opcode.specs.declared.operand.Place.{Place}
-use Rattle.opcode.specs.declared.record.OpCode.{OpCode}
 use Rattle.table.specs.declared.Answer.{Answer}
 use Rattle.table.specs.declared.Decoded.{Decoded}
 use Rattle.table.specs.Signed.{signedOf, relativeOf}
 use Rattle.table.specs.Row.{Index, ix, iy, Kind, none, is, hl, h, l, at-hl, byte, word, at-word, at-port, rel, at-index, byte-behind, Cycles, Row, row, gap, t1, read}
-use Rattle.table.specs.Departures.{ed-behind}
 use Rattle.table.specs.Plain.{plain}
 use Rattle.table.specs.Cb.{cb}
 use Rattle.table.specs.Ed.{ed}
@@ -24,14 +22,14 @@ use Rattle.table.specs.Prefix.{bitRow, behindRow}
 use Rattle.table.specs.Decode.{isPrefix, rowOf, operandBytes, made, recordOf, four, decodeOf}
 use Rattle.table.specs.Consequences.{values, AllBytes}
 use Rattle.table.proofs.Upto.{agree}
-use Rattle.table.proofs.Pages.{every, at-code, chosen, both-left, both-right}
+use Rattle.table.proofs.Pages.{at-code, chosen, both-left, both-right}
 use Rattle.table.proofs.Rows.{Everywhere, row-holds}
 use Rattle.table.proofs.Done.{decides}
 use Rattle.wording.specs.declared.Written.{Written}
 use Rattle.wording.specs.Ascii.{ascii}
 use Rattle.wording.specs.Digits.{hex8, hex16, decimal, digitAt, signed}
 use Rattle.wording.specs.Names.{names, nameOf, reg8Names, reg8Text, reg16Names, reg16Text, conditionNames, conditionText}
-use Rattle.wording.specs.Text.{operandText, placeText, each, byteText, plainText, fullText}
+use Rattle.wording.specs.Text.{placeText, each, byteText, plainText, fullText}
 use Rattle.wording.specs.Answers.{countOf, answered, textAnswer}
 
 -- the bytes behind the code at which a row's text is longest, and data as long as any
@@ -41,21 +39,22 @@ lowest = 0x80 ∷ 0x80 ∷ []
 abbrev zeros : List ℕ
 zeros = 0 ∷ 0 ∷ 0 ∷ 0 ∷ []
 
--- at 80 hex a signed byte and a relative operand are as long as at any byte
-signed-all : values (λ (b : ℕ). leb (length (signed (signedOf b))) (length (signed (signedOf 0x80)))) 0 256 ≡ values (λ (b : ℕ). true) 0 256
+-- whether a signed number made of a byte has no longer a text than that of 80 hex
+abbrev no-longer : (ℕ → ℤ) → ℕ → Bool
+no-longer f b = leb (length (signed (f b))) (length (signed (f 0x80)))
+
+longest-at : (f : ℕ → ℤ) → values (no-longer f) 0 256 ≡ values (λ (b : ℕ). true) 0 256 → (b : ℕ) → b < 256 → length (signed (f b)) ≤ length (signed (f 0x80))
+longest-at f test b fits = leb-true _ _ (agree (no-longer f) (λ (k : ℕ). true) true 256 test b fits)
+
+displacement-most : (b : ℕ) → b < 256 → length (signed (signedOf b)) ≤ length (signed (signedOf 0x80))
 unfolding signed decimal digitAt signedOf
-signed-all = refl
-
-relative-all : values (λ (b : ℕ). leb (length (signed (relativeOf b))) (length (signed (relativeOf 0x80)))) 0 256 ≡ values (λ (b : ℕ). true) 0 256
-unfolding signed decimal digitAt relativeOf signedOf
-relative-all = refl
-
-signed-most : (b : ℕ) → b < 256 → length (signed (signedOf b)) ≤ length (signed (signedOf 0x80))
-signed-most b fits = leb-true _ _ (agree (λ (b : ℕ). leb (length (signed (signedOf b))) (length (signed (signedOf 0x80)))) (λ (b : ℕ). true) true 256 signed-all b fits)
+displacement-most = longest-at signedOf refl
 
 relative-most : (b : ℕ) → b < 256 → length (signed (relativeOf b)) ≤ length (signed (relativeOf 0x80))
-relative-most b fits = leb-true _ _ (agree (λ (b : ℕ). leb (length (signed (relativeOf b))) (length (signed (relativeOf 0x80)))) (λ (b : ℕ). true) true 256 relative-all b fits)
+unfolding signed decimal digitAt relativeOf signedOf
+relative-most = longest-at relativeOf refl
 
+-- a place's text is no longer than where each byte behind the code is 80 hex
 module _ (before s : List ℕ) (bytes : AllBytes s) where
   place-most : (k : Kind) → length (placeText before (read k s)) ≤ length (placeText before (read k lowest))
   unfolding hex8 hex16
@@ -70,8 +69,8 @@ module _ (before s : List ℕ) (bytes : AllBytes s) where
   place-most at-word = simp length-append (omega arith)
   place-most at-port = simp length-append (omega arith)
   place-most rel = simp length-append (omega (arith, relative-most (getD s 0 0) (bytes 0)))
-  place-most (at-index ix) = simp length-append (omega (arith, signed-most (getD s 0 0) (bytes 0)))
-  place-most (at-index iy) = simp length-append (omega (arith, signed-most (getD s 0 0) (bytes 0)))
+  place-most (at-index ix) = simp length-append (omega (arith, displacement-most (getD s 0 0) (bytes 0)))
+  place-most (at-index iy) = simp length-append (omega (arith, displacement-most (getD s 0 0) (bytes 0)))
   place-most byte-behind = simp length-append (omega arith)
 
 -- three characters a byte
@@ -80,6 +79,7 @@ unfolding hex8
 bytes-length [] = refl
 bytes-length (b ∷ s) = omega (arith, bytes-length s)
 
+-- the same of a whole row
 made-most : (ins : Instruction) (x y z : Kind) (n : ℕ) (t : Cycles) (s d : List ℕ) → AllBytes s → length d ≡ 4 → length (fullText (made ins x y z n t s d)) ≤ length (fullText (made ins x y z n t lowest zeros))
 unfolding fullText plainText
 made-most ins x y z n t s d bytes size =
@@ -141,7 +141,7 @@ module _ (s : List ℕ) (bytes : AllBytes s) (done : decodeOf s .answer ≡ Answ
   unfolding fullText
   plain-most = let h = simp length-append at full-most in omega arith
 
--- so is no count
+-- nor is any count
 count-most : (a : Answer) (t out : List ℕ) → (a ≡ Answer.Done → length t ≤ 52) → countOf (answered a t out) ≤ 52
 count-most Answer.Done t out most = chosen (λ (w : Written). countOf w ≤ 52) (leb (length t) (length out)) _ _ (most refl) (omega arith)
 count-most Answer.Nothing t out most = omega arith

@@ -30,12 +30,12 @@ abbrev pub fitted : List ℕ → List ℕ → Written
 fitted t out = cond (leb (length t) (length out)) (Written.Done (length t)) Written.NoRoom
 
 -- the lent bytes then: on Done the text at the front and the bytes behind it as they were, on a refusal all as they were
-abbrev pub left : Written → List ℕ → List ℕ → List ℕ
-left (Written.Done n) t out = t ++ drop (length t) out
-left Written.Nothing t out = out
-left Written.Short t out = out
-left Written.Long t out = out
-left Written.NoRoom t out = out
+abbrev pub leaves : Written → List ℕ → List ℕ → List ℕ
+leaves (Written.Done n) t out = t ++ drop (length t) out
+leaves Written.Nothing t out = out
+leaves Written.Short t out = out
+leaves Written.Long t out = out
+leaves Written.NoRoom t out = out
 
 -- the decoder's refusals come before NoRoom
 abbrev pub answered : Answer → List ℕ → List ℕ → Written
@@ -49,4 +49,4 @@ abbrev pub textAnswer : (OpCode → List ℕ) → Decoded → List ℕ → Writt
 textAnswer text d out = answered (d .answer) (text (d .rec)) out
 
 abbrev pub textBytes : (OpCode → List ℕ) → Decoded → List ℕ → List ℕ
-textBytes text d out = left (textAnswer text d out) (text (d .rec)) out
+textBytes text d out = leaves (textAnswer text d out) (text (d .rec)) out

@@ -4,7 +4,7 @@ pub mod numbers;
 
 ghost use mathlib.Core.Path.{_≡_};
 ghost use mathlib.Core.List.{[], _∷_};
-ghost use Rattle.wording.specs.Answers.{fitted, left};
+ghost use Rattle.wording.specs.Answers.{fitted, leaves};
 ghost use Rattle.writer.specs.Wrote.{Wrote};
 use wording::Written;
 
@@ -35,7 +35,7 @@ pub fn put_bytes(buf: &mut [u8], at: usize, s: &[u8]) -> usize
 // A whole text to the front of lent bytes, or nothing where it does not fit.
 pub fn give(text: &[u8], out: &mut [u8]) -> Written
     ensures answer { λ w. ⌜ w ≡ fitted (now (text .entry)) (now (out .entry)) ⌝ }
-    ensures bytes { λ _. ⌜ now (out .exit) ≡ left (fitted (now (text .entry)) (now (out .entry))) (now (text .entry)) (now (out .entry)) ⌝ }
+    ensures bytes { λ _. ⌜ now (out .exit) ≡ leaves (fitted (now (text .entry)) (now (out .entry))) (now (text .entry)) (now (out .entry)) ⌝ }
 {
     if out.len() < text.len() {
         return Written::NoRoom;

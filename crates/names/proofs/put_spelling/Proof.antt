@@ -1,6 +1,5 @@
 -- `put_spelling` meets its contract: the row says how many of its letters are written. Assumes nothing.
 use mathlib.Core.Path.{_≡_, ap}
-use mathlib.Core.List.{List}
 use Prim.Native.Nat.{ℕ, _+_, _-_, _*_}
 use native.Mathlib.Omega.{arith}
 use lib.ListN.{take, drop, getD}

@@ -1,7 +1,6 @@
 -- `write` meets its contract: each arm knows the decoder's answer. Assumes nothing.
-use mathlib.Core.Path.{_≡_, refl, ap, sym, _∙_}
+use mathlib.Core.Path.{refl}
 use denote.Ref.{now}
-use Rattle.table.specs.declared.Decoded.{Decoded}
 use Rattle.text.proofs.Room.{text-most}
 use borrow.Author.Needs.{needs}
 use Rattle.text.proofs.write.Statement.{statement}

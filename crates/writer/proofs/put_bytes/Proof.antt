@@ -1,5 +1,4 @@
 -- `put_bytes` meets its contract: after i turns the first i bytes are written. Assumes nothing.
-use mathlib.Core.Path.{_≡_}
 use Prim.Native.Nat.{_≤_, _<_, _-_}
 use native.Mathlib.Numerals.{add-one}
 use native.Mathlib.Omega.{arith}

@@ -1,5 +1,5 @@
 -- `z80_text` meets its contract: number and count are those of the answer. Assumes nothing.
-use mathlib.Core.Path.{_≡_, ap, _∙_}
+use mathlib.Core.Path.{ap, _∙_}
 use denote.Ref.{now}
 use Rattle.wording.specs.Answers.{numberOf, countOf}
 use Rattle.wording.proofs.Longest.{plain-count}

@@ -1,5 +1,5 @@
 -- `put_index` meets its contract: each arm knows its register. Assumes nothing.
-use mathlib.Core.Path.{_≡_, sym, ap, _∙_}
+use mathlib.Core.Path.{sym, ap, _∙_}
 use lib.IntN.{ℤ}
 use mir.Facts.{toZ-ofZ}
 use Rattle.opcode.specs.declared.registers.RegI.{RegI}

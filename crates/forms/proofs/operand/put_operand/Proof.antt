@@ -1,5 +1,5 @@
 -- `put_operand` meets its contract: each arm knows its operand. Assumes nothing.
-use mathlib.Core.Path.{_≡_, sym, ap, _∙_}
+use mathlib.Core.Path.{sym, ap, _∙_}
 use mir.Facts.{toZ-ofZ}
 use Rattle.wording.specs.Digits.{signed}
 use Rattle.wording.specs.Text.{operandText}

@@ -1,5 +1,5 @@
 -- `put_place` meets its contract: nothing where the place is empty. Assumes nothing.
-use mathlib.Core.Path.{_≡_, sym, ap}
+use mathlib.Core.Path.{sym, ap}
 use denote.Ref.{now}
 use Rattle.wording.specs.Text.{placeText}
 use Rattle.writer.proofs.Laws.{_▸_, told, none}

@@ -1,5 +1,5 @@
 -- `magnitude` meets its contract: below zero the bits are turned over. Assumes nothing.
-use mathlib.Core.Path.{_≡_, sym, ap, _∙_}
+use mathlib.Core.Path.{sym, ap, _∙_}
 use Prim.Native.Nat.{_+_}
 use native.Mathlib.Omega.{arith}
 use native.Mathlib.Numerals.{add-one}

@@ -1,5 +1,5 @@
 -- `put_signed` meets its contract: the test decides the sign. Assumes nothing.
-use mathlib.Core.Path.{_≡_, ap, sym, _∙_}
+use mathlib.Core.Path.{ap, sym, _∙_}
 use Prim.Native.Nat.{ℕ}
 use mathlib.Core.List.{_∷_}
 use lib.IntN.{natAbs}
