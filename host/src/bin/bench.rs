@@ -141,7 +141,7 @@ mod linked {
         println!(
             "bench:   {:<10} {here:7.1} ns here, {original:7.1} ns original, ratio {:.2}",
             pair.name,
-            original / here
+            here / original
         );
     }
 
