@@ -27,7 +27,7 @@ fn put_next_times(buf: &mut [u8], at: usize, t: [TStates; 6]) -> usize
 {
     let mut next = at;
     let mut i = 1;
-    while i < 6 {
+    while i < OpCode::PLACES {
         next = put_next_time(buf, next, t[i]);
         i += 1;
     }
@@ -76,7 +76,7 @@ fn put_data(buf: &mut [u8], at: usize, d: [u8; 4], n: u8) -> usize
 {
     let mut next = at;
     let mut i = 0;
-    while i < 4 && i < n as usize {
+    while i < OpCode::LENGTH_MAX && i < n as usize {
         let digits = put_hex8(buf, next, d[i]);
         next = put(buf, digits, b' ');
         i += 1;

@@ -26,7 +26,8 @@ fn put_chosen(buf: &mut [u8], rec: OpCode, full: bool) -> usize
     }
 }
 
-// The text of a record that is no longer than a decoded one's. It is made apart, so that nothing is written where it does not fit.
+// Either text of a record, where that is no longer than a decoded one's. It is made in a line of its own, so that nothing is
+// written where it does not fit.
 fn give_chosen(rec: OpCode, full: bool, out: &mut [u8]) -> Written
     requires { ⌜ length (textOf full rec) ≤ 52 ⌝ }
     ensures answer { λ w. ⌜ w ≡ fitted (textOf full rec) (now (out .entry)) ⌝ }

@@ -6,6 +6,7 @@ ghost use Rattle.wording.specs.Digits.{digit as digitOf, hex8, hex16, digitAt, 
 ghost use Rattle.writer.specs.Wrote.{Wrote};
 use super::put;
 
+// The digits of hex and of decimal numbers.
 const DIGITS: [u8; 16] = *b"0123456789ABCDEF";
 
 fn digit(n: usize) -> u8
