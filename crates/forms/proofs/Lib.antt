@@ -1,3 +1,0 @@
-pub mod Widen
-pub mod Each
-pub mod Times
