@@ -60,4 +60,4 @@ put-operand-spec =
     (λ c. search needs)
     (λ c. told (ap operandText (sym (c .before .before .before .before .before .o11 .given .1))) (c .before .before .put-condition .ensures))
     (λ c. search needs)
-    (λ c. told (ap operandText (sym (c .before .before .before .before .before .enum-told .given .1))) (c .before .before .put-bytes .ensures)))
+    (λ c. rw (c .before .before .before .before .before .enum-told .given .1) (c .before .before .put-bytes .ensures)))

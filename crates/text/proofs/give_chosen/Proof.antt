@@ -10,7 +10,7 @@ use borrow.Author.Needs.{needs}
 use Rattle.text.proofs.give_chosen.Statement.{statement}
 use Rattle.text.proofs.give_chosen.Tie as tie
 
--- the text, and that it is what the line is given of
+-- the text; its length is the place reached, and the part that `give` is lent is the text itself
 abbrev made : tie.After-put-chosen → List ℕ
 made k = textOf (k .before .before .before .args .full) (k .before .before .before .args .rec)
 
