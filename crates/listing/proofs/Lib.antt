@@ -1,2 +1,4 @@
 pub mod Passed
 pub mod Listing
+pub mod Longest
+pub mod Row

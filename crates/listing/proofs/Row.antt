@@ -1,0 +1,54 @@
+-- What listing a row answers along a listing. Assumes nothing.
+use mathlib.Core.Path.{_≡_, refl, sym, ap, subst, _∙_}
+use mathlib.Core.Logic.{_⊎_, inl, inr}
+use mathlib.Core.Bool.{false, cond}
+use mathlib.Core.List.{List, _∷_}
+use Prim.Native.Nat.{ℕ, _+_, _-_, _<_, _≤_}
+use native.Mathlib.Omega.{arith}
+use lib.Dec.{ltb, leb}
+use lib.ListN.{length, take, drop, length-take, length-drop}
+use borrow.Author.Tests.{le-ltb, lt-leb}
+use Rattle.table.specs.declared.Answer.{Answer}
+use Rattle.table.specs.Decode.{decodeOf}
+use Rattle.table.proofs.Answers.{nothing-exactly, long-exactly}
+use Rattle.wording.specs.Answers.{fitted}
+use Rattle.listing.specs.declared.Listed.{Listed}
+use Rattle.listing.specs.Rows.{window, passedOf, Row, rowAt}
+use Rattle.listing.specs.Answers.{wrongSize, outside, windowAt, listed, givenBy, rowAnswer}
+use Rattle.listing.specs.Consequences.{Answered}
+use Rattle.listing.proofs.Passed.{passed-within}
+
+-- a row's window is Done or Short: it is not empty, and has no more than four bytes
+told : (a : Answer) → (a ≡ Answer.Nothing → ⊥) → (a ≡ Answer.Long → ⊥) → (a ≡ Answer.Done) ⊎ (a ≡ Answer.Short)
+told Answer.Done nothing long = inl refl
+told Answer.Nothing nothing long = absurd (nothing refl)
+told Answer.Short nothing long = inr refl
+told Answer.Long nothing long = absurd (long refl)
+
+pub done-or-short : (s : List ℕ) → 1 ≤ length s → (decodeOf (window s) .answer ≡ Answer.Done) ⊎ (decodeOf (window s) .answer ≡ Answer.Short)
+done-or-short s some =
+    let n = length-take 4 s in
+    told (decodeOf (window s) .answer) (λ e. omega (arith, nothing-exactly (window s) .0 e, n)) (λ e. omega (arith, long-exactly (window s) .0 e, n))
+
+module _ (origin : ℕ) (image : List ℕ) (k : ℕ) (inside : k < length image) where
+  -- the address of a place of the image is not outside, and the place is found again
+  within : outside image origin (origin + k) ≡ false
+  within = rw (le-ltb (origin + k) origin (omega arith), lt-leb (origin + length image) (origin + k) (omega arith)) refl
+
+  found : windowAt image origin (origin + k) ≡ window (drop k image)
+  found = let e : origin + k - origin ≡ k = omega arith in ap (λ (n : ℕ). window (drop n image)) e
+
+  passes : passedOf (window (drop k image)) ≡ length (take (passedOf (window (drop k image))) (drop k image))
+  passes =
+      let s = drop k image in
+      let p = passedOf (window s) in
+      omega (arith, passed-within s (omega (arith, length-drop k image)), length-take p s)
+
+-- where the image's size is right, a row of the listing is what is answered at its address: its line, and as many bytes as it has
+pub row-answers : (origin : ℕ) (image out : List ℕ) (r : Row) → wrongSize image origin ≡ false → Answered origin image r → rowAnswer image origin (r .address) out ≡ listed (fitted (r .line) out) (length (r .bytes))
+row-answers origin image out r size x =
+    let k = x .place in
+    let s = drop k image in
+    subst (λ (q : Row). rowAnswer image origin (q .address) out ≡ listed (fitted (q .line) out) (length (q .bytes))) (sym (x .answer))
+    (rw (size, within origin image k (x .inside), found origin image k (x .inside))
+    (ap (λ (p : ℕ). listed (fitted (rowAt (origin + k) s .line) out) p) (passes origin image k (x .inside))))
