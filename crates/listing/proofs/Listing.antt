@@ -44,9 +44,10 @@ answered : (n a : ℕ) (s : List ℕ) → Every (Answered a s) (rowsBehind n a s
 answered n a [] = tt
 answered (suc n) a (b ∷ s) = every-map (further a b s) (rowsBehind n (suc a) s) (answered n (suc a) s)
 answered zero a (b ∷ s) =
-    let n = passedOf (window (b ∷ s)) - 1 in
-    (record { place = 0; inside = omega arith; answer = ap (λ (k : ℕ). rowAt k (b ∷ s)) (omega arith) },
-      every-map (further a b s) (rowsBehind n (suc a) s) (answered n (suc a) s))
+    let n = passedOf (window (b ∷ s)) - 1 in (
+      record { place = 0; inside = omega arith; answer = ap (λ (k : ℕ). rowAt k (b ∷ s)) (omega arith) },
+      every-map (further a b s) (rowsBehind n (suc a) s) (answered n (suc a) s),
+    )
 
 -- each row is the decoder's answer at its address
 pub each-answered : (origin : ℕ) (image : List ℕ) → Every (Answered origin image) (listing origin image)

@@ -1,0 +1,44 @@
+-- Places of an image: the tests of its size and of an address, and the bytes looked at. Assumes nothing.
+use mathlib.Core.Path.{_≡_, refl, sym, ap}
+use mathlib.Core.Bool.{Bool, true, false, _||_, true≢false}
+use mathlib.Core.List.{List, [], _∷_}
+use Prim.Native.Nat.{ℕ, zero, suc, _+_, _-_, _<_, _≤_, min}
+use native.Mathlib.Omega.{arith}
+use lib.Dec.{ltb, leb}
+use lib.ListN.{length, take}
+use borrow.Author.Tests.{ltb-true, ltb-false, leb-true, leb-false, lt-ltb, le-ltb, le-leb, lt-leb}
+use Rattle.listing.specs.Answers.{outside}
+
+alike : (x y : Bool) → (x ≡ true → y ≡ true) → (x ≡ false → y ≡ false) → x ≡ y
+alike true y up down = sym (up refl)
+alike false y up down = sym (down refl)
+
+-- over the end, told without a sum that might not fit
+pub over-told : (a n e : ℕ) → a ≤ e → ltb (e - a) n ≡ ltb e (a + n)
+over-told a n e h =
+    alike (ltb (e - a) n) (ltb e (a + n)) (λ t. lt-ltb e (a + n) (omega (arith, ltb-true (e - a) n t)))
+    (λ f. le-ltb e (a + n) (omega (arith, ltb-false (e - a) n f)))
+
+pub past-told : (a n e : ℕ) → a ≤ e → leb n (e - a) ≡ leb (a + n) e
+past-told a n e h =
+    alike (leb n (e - a)) (leb (a + n) e) (λ t. le-leb (a + n) e (omega (arith, leb-true n (e - a) t)))
+    (λ f. lt-leb (a + n) e (omega (arith, leb-false n (e - a) f)))
+
+neither : (x y : Bool) → (x || y) ≡ false → (x ≡ false) × (y ≡ false)
+neither true y e = absurd (true≢false e)
+neither false y e = (refl, e)
+
+-- an address that is not outside
+pub inside : (image : List ℕ) (origin address : ℕ) → outside image origin address ≡ false → (origin ≤ address) × (address < origin + length image)
+inside image origin address e =
+    let n = neither (ltb address origin) (leb (origin + length image) address) e in
+    (ltb-false address origin (n .0), leb-false (origin + length image) address (n .1))
+
+-- the first n bytes, or all where there are fewer
+pub first-of : (n m : ℕ) (s : List ℕ) → m ≡ min n (length s) → take m s ≡ take n s
+first-of zero zero s e = refl
+first-of zero (suc m) s e = absurd (omega arith)
+first-of (suc n) zero [] e = refl
+first-of (suc n) (suc m) [] e = refl
+first-of (suc n) zero (b ∷ s) e = absurd (omega arith)
+first-of (suc n) (suc m) (b ∷ s) e = ap (λ (l : List ℕ). b ∷ l) (first-of n m s (omega arith))

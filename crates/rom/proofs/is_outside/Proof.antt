@@ -1,0 +1,18 @@
+-- `is_outside` meets its contract: the sum is told by a difference. Assumes nothing.
+use borrow.Author.Tests.{lt-ltb, le-ltb}
+use mathlib.Core.Path.{refl}
+use Rattle.rom.proofs.Places.{past-told}
+use lib.ListN.{length}
+use denote.Ref.{now}
+use borrow.Author.Needs.{needs}
+use Rattle.rom.proofs.is_outside.Statement.{statement}
+use Rattle.rom.proofs.is_outside.Tie as tie
+
+returns : tie.Need-returns
+returns c = rw (lt-ltb _ _ (c .if1 .taken)) refl
+
+returns-2 : tie.Need-returns-2
+returns-2 c = rw (le-ltb _ _ (c .if1 .left)) (past-told (c .before .args .origin) (length (now (c .before .args .image))) (c .before .args .address) (c .if1 .left))
+
+pub is-outside-spec : {M : Type 1} → statement M
+is-outside-spec = tie.close (tie.spec returns (λ c. search needs) returns-2)

@@ -1,0 +1,19 @@
+-- `is_wrong_size` meets its contract: the sum is told by a difference. Assumes nothing.
+use borrow.Author.Tests.{eq-eqb, ne-eqb}
+use mathlib.Core.Path.{refl}
+use native.Mathlib.Omega.{arith}
+use Rattle.rom.proofs.Places.{over-told}
+use lib.ListN.{length}
+use denote.Ref.{now}
+use borrow.Author.Needs.{needs}
+use Rattle.rom.proofs.is_wrong_size.Statement.{statement}
+use Rattle.rom.proofs.is_wrong_size.Tie as tie
+
+returns : tie.Need-returns
+returns c = rw (eq-eqb _ _ (c .if1 .taken)) refl
+
+returns-2 : tie.Need-returns-2
+returns-2 c = rw (ne-eqb _ _ (c .if1 .left)) (over-told (c .before .args .origin) (length (now (c .before .args .image))) 65536 (omega arith))
+
+pub is-wrong-size-spec : {M : Type 1} → statement M
+is-wrong-size-spec = tie.close (tie.spec returns (λ c. search needs) returns-2)
