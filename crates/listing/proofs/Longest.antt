@@ -1,18 +1,24 @@
--- No line is longer than 58 bytes. Assumes nothing.
+-- No line is longer than 58 bytes, and no more than four bytes are passed. Assumes nothing.
 use mathlib.Core.Path.{_≡_, refl}
-use Prim.Native.Nat.{ℕ, _≤_}
+use Prim.Native.Nat.{ℕ, zero, suc, _-_, _≤_}
 use native.Mathlib.Omega.{arith}
-use mathlib.Core.List.{List}
-use lib.ListN.{length, length-append}
+use mathlib.Core.List.{List, [], _∷_}
+use lib.Dec.{leb}
+use lib.ListN.{length, take, drop, length-append}
 use Rattle.opcode.specs.declared.record.OpCode.{OpCode}
 use Rattle.table.specs.declared.Answer.{Answer}
 use Rattle.table.specs.Decode.{decodeOf}
 use Rattle.table.specs.Consequences.{AllBytes, first}
+use Rattle.table.proofs.Pages.{chosen}
+use Rattle.wording.specs.declared.Written.{Written}
 use Rattle.wording.specs.Digits.{hex8, hex16}
 use Rattle.wording.specs.Text.{fullText}
-use Rattle.wording.proofs.Longest.{full-most}
+use Rattle.wording.proofs.Longest.{full-most, drop-bytes}
 use Rattle.line.specs.Line.{decodedLine, shortLine, lineBy}
-use Rattle.listing.specs.Rows.{lineOf}
+use Rattle.listing.specs.declared.Listed.{Listed}
+use Rattle.listing.specs.Rows.{window, lineOf, passedOf}
+use Rattle.listing.specs.Answers.{countOf, passedOver, wrongSize, outside, windowAt, listed, givenBy, rowAnswer}
+use Rattle.listing.proofs.Passed.{passed-most}
 
 short-most : (a b : ℕ) → length (shortLine a b) ≤ 58
 unfolding shortLine hex8 hex16
@@ -28,3 +34,34 @@ by-most Answer.Long a r b most = short-most a b
 pub line-most : (a : ℕ) (w : List ℕ) → AllBytes w → length (lineOf a w) ≤ 58
 unfolding lineOf
 line-most a w bytes = by-most (decodeOf w .answer) a (decodeOf w .rec) (first w) (full-most w bytes)
+
+-- a window of bytes has bytes
+take-bytes : (n : ℕ) (s : List ℕ) → AllBytes s → AllBytes (take n s)
+take-bytes zero s bytes k = omega arith
+take-bytes (suc n) [] bytes k = bytes k
+take-bytes (suc n) (b ∷ s) bytes zero = bytes 0
+take-bytes (suc n) (b ∷ s) bytes (suc k) = take-bytes n s (λ j. bytes (suc j)) k
+
+pub window-bytes : (k : ℕ) (image : List ℕ) → AllBytes image → AllBytes (window (drop k image))
+window-bytes k image bytes = take-bytes 4 (drop k image) (drop-bytes k image bytes)
+
+-- nor is a count more, nor are more than four bytes passed
+module _ (a : ℕ) (w out : List ℕ) where
+  by-count : length (lineOf a w) ≤ 58 → countOf (givenBy a w out) ≤ 58
+  by-count most = chosen (λ (x : Written). countOf (listed x (passedOf w)) ≤ 58) (leb (length (lineOf a w)) (length out)) _ _ most (omega arith)
+
+  by-passed : passedOver (givenBy a w out) ≤ 4
+  by-passed = chosen (λ (x : Written). passedOver (listed x (passedOf w)) ≤ 4) (leb (length (lineOf a w)) (length out)) _ _ (passed-most w) (omega arith)
+
+module _ (image : List ℕ) (origin address : ℕ) (out : List ℕ) where
+  pub count-most : AllBytes image → countOf (rowAnswer image origin address out) ≤ 58
+  count-most bytes =
+      let w = windowAt image origin address in
+      let most = line-most address w (window-bytes (address - origin) image bytes) in
+      chosen (λ (x : Listed). countOf x ≤ 58) (wrongSize image origin) _ _ (omega arith)
+      (chosen (λ (x : Listed). countOf x ≤ 58) (outside image origin address) _ _ (omega arith) (by-count address w out most))
+
+  pub passed-over-most : passedOver (rowAnswer image origin address out) ≤ 4
+  passed-over-most =
+      chosen (λ (x : Listed). passedOver x ≤ 4) (wrongSize image origin) _ _ (omega arith)
+      (chosen (λ (x : Listed). passedOver x ≤ 4) (outside image origin address) _ _ (omega arith) (by-passed address (windowAt image origin address) out))

@@ -122,7 +122,7 @@ all-fit =
     }
 
 -- bytes stay bytes behind the first ones
-drop-bytes : (n : ℕ) (s : List ℕ) → AllBytes s → AllBytes (drop n s)
+pub drop-bytes : (n : ℕ) (s : List ℕ) → AllBytes s → AllBytes (drop n s)
 drop-bytes zero s bytes = bytes
 drop-bytes (suc n) [] bytes = bytes
 drop-bytes (suc n) (b ∷ s) bytes = drop-bytes n s (λ k. bytes (suc k))
