@@ -19,9 +19,10 @@ behind (suc n) a [] = refl
 behind (suc n) a (b ∷ s) = behind n (suc a) s ∙ ap (λ (k : ℕ). rowsBehind 0 k (drop n s)) (omega arith)
 
 -- a listing is its first row and the listing of what that does not pass
-pub listing-next : (a b : ℕ) (s : List ℕ) → let p = passedOf (window (b ∷ s)) in listing a (b ∷ s) ≡ rowAt a (b ∷ s) ∷ listing (a + p) (drop p (b ∷ s))
+pub listing-next : (a : ℕ) (s : List ℕ) → 1 ≤ length s → listing a s ≡ rowAt a s ∷ listing (a + passedOf (window s)) (drop (passedOf (window s)) s)
 unfolding listing
-listing-next a b s =
+listing-next a [] some = absurd (omega arith)
+listing-next a (b ∷ s) some =
     let p = passedOf (window (b ∷ s)) in
     let onward : suc a + (p - 1) ≡ a + p = omega (arith, again (b ∷ s)) in
     ap (λ (rs : List Row). rowAt a (b ∷ s) ∷ rs)

@@ -1,0 +1,70 @@
+-- Pages: the rows that are written to some room, and what is left for the next. Assumes nothing.
+use mathlib.Core.Path.{_≡_, refl, sym, ap, subst, _∙_}
+use mathlib.Core.Bool.{Bool, true, false}
+use mathlib.Core.List.{List, [], _∷_, _++_, append-assoc}
+use Prim.Native.Nat.{ℕ, zero, suc, _+_, _-_, _<_, _≤_}
+use native.Mathlib.Omega.{arith}
+use lib.Dec.{leb}
+use lib.ListN.{length, take, drop, length-take, length-drop, length-append}
+use lib.Seq.{drop-drop}
+use borrow.Author.Tests.{leb-true, leb-false, le-leb, lt-leb}
+use Rattle.listing.specs.Rows.{window, lineOf, passedOf, Row, rowAt, listing, printed, joined}
+use Rattle.listing.specs.Page.{page}
+use Rattle.listing.proofs.Passed.{passed-least, passed-within}
+use Rattle.listing.proofs.Listing.{listing-next}
+
+-- where there is room for the longest line the first row is written, and the others to what is left
+pub page-next : (room a : ℕ) (s : List ℕ) → 1 ≤ length s → 58 ≤ room → page room (listing a s) ≡ rowAt a s ∷ page (room - length (lineOf a (window s))) (listing (a + passedOf (window s)) (drop (passedOf (window s)) s))
+page-next room a s some enough = ap (page room) (listing-next a s some) ∙ rw (le-leb 58 room enough) refl
+
+-- where there is not, none is
+pub page-full : (room : ℕ) (rs : List Row) → room < 58 → page room rs ≡ []
+page-full room [] small = refl
+page-full room (r ∷ rs) small = rw (lt-leb 58 room small) refl
+
+-- a page of no bytes
+pub page-none : (room a : ℕ) (s : List ℕ) → length s ≡ 0 → page room (listing a s) ≡ []
+unfolding listing
+page-none room a [] none = refl
+page-none room a (b ∷ s) none = absurd (omega arith)
+
+-- the bytes of a row are as many as it passes
+pub passed-bytes : (s : List ℕ) → 1 ≤ length s → length (take (passedOf (window s)) s) ≡ passedOf (window s)
+passed-bytes s some = omega (arith, passed-within s some, length-take (passedOf (window s)) s)
+
+-- a page, and the lines of what its rows do not pass, are all lines
+abbrev pub Splits : ℕ → List ℕ → List Row → Type 0
+Splits a s rows = printed (listing a s) ≡ printed rows ++ printed (listing (a + length (joined rows)) (drop (length (joined rows)) s))
+
+splits-none : (a : ℕ) (s : List ℕ) → Splits a s []
+splits-none a s = let e : a ≡ a + 0 = omega arith in ap (λ (k : ℕ). printed (listing k s)) e
+
+splits-next : (a : ℕ) (s : List ℕ) (rows : List Row) → 1 ≤ length s → Splits (a + passedOf (window s)) (drop (passedOf (window s)) s) rows → Splits a s (rowAt a s ∷ rows)
+splits-next a s rows some rest =
+    let p = passedOf (window s) in
+    let n = length (joined rows) in
+    let size : length (joined (rowAt a s ∷ rows)) ≡ p + n = length-append (take p s) (joined rows) ∙ ap (λ (k : ℕ). k + n) (passed-bytes s some) in
+    let onward : a + p + n ≡ a + length (joined (rowAt a s ∷ rows)) = omega (arith, size) in
+    let beyond = ap (λ (k : ℕ). printed (listing k (drop n (drop p s)))) onward ∙ ap (λ (l : List ℕ). printed (listing (a + length (joined (rowAt a s ∷ rows))) l)) (drop-drop n p s ∙ ap (λ (k : ℕ). drop k s) (sym size)) in
+    ap printed (listing-next a s some) ∙ ap (λ (l : List ℕ). lineOf a (window s) ++ l) (rest ∙ ap (λ (l : List ℕ). printed rows ++ l) beyond) ∙ sym (append-assoc (lineOf a (window s)) (printed rows) _)
+
+-- whether there is room for the longest line; `shorter` is the same of fewer bytes
+splits-by : (t : Bool) (room a : ℕ) (s : List ℕ) → leb 58 room ≡ t → 1 ≤ length s → ((room a : ℕ) (l : List ℕ) → length l < length s → Splits a l (page room (listing a l))) → Splits a s (page room (listing a s))
+splits-by true room a s t some shorter =
+    let p = passedOf (window s) in
+    let left = room - length (lineOf a (window s)) in
+    let rest = shorter left (a + p) (drop p s) (omega (arith, length-drop p s, passed-least (window s))) in
+    subst (Splits a s) (sym (page-next room a s some (leb-true 58 room t))) (splits-next a s (page left (listing (a + p) (drop p s))) some rest)
+splits-by false room a s t some shorter = subst (Splits a s) (sym (page-full room (listing a s) (leb-false 58 room t))) (splits-none a s)
+
+splits-at : (room a : ℕ) (s : List ℕ) → ((room a : ℕ) (l : List ℕ) → length l < length s → Splits a l (page room (listing a l))) → Splits a s (page room (listing a s))
+splits-at room a [] shorter = subst (Splits a []) (sym (page-none room a [] refl)) (splits-none a [])
+splits-at room a (b ∷ s) shorter = splits-by (leb 58 room) room a (b ∷ s) refl (omega arith) shorter
+
+splits : (n room a : ℕ) (s : List ℕ) → length s < n → Splits a s (page room (listing a s))
+splits zero room a s enough = absurd (omega arith)
+splits (suc n) room a s enough = splits-at room a s (λ room a l fewer. splits n room a l (omega arith))
+
+-- what is printed page by page is the whole listing
+pub page-printed : (room a : ℕ) (s : List ℕ) → Splits a s (page room (listing a s))
+page-printed room a s = splits (suc (length s)) room a s (omega arith)
