@@ -1,2 +1,3 @@
-pub mod Places
+pub mod Inside
 pub mod Other
+pub mod Filling

@@ -1,19 +1,30 @@
 // The rows of an image, by the promises of the decoder and of the text.
+mod places;
+
 ghost use mathlib.Core.Path.{_≡_};
-ghost use Prim.Native.Nat.{_+_, _-_, _<_, min};
-ghost use lib.ListN.{length};
-ghost use Rattle.listing.specs.Answers.{wrongSize, outside, listed as listedOf, givenBy, leftBy, rowAnswer, rowBytes};
+ghost use mathlib.Core.List.{_++_};
+ghost use Prim.Native.Nat.{_+_, _-_, _<_, _≤_, min};
+ghost use lib.ListN.{length, drop};
+ghost use Rattle.writer.specs.Wrote.{Wrote};
+ghost use Rattle.listing.specs.Rows.{window, lineOf, passedOf, listing, printed, joined};
+ghost use Rattle.listing.specs.Answers.{listed as listedOf, givenBy, leftBy, rowAnswer, rowBytes};
+ghost use Rattle.listing.specs.Page.{page, rowsAnswer, rowsBytes};
 use disas::disas;
 use line::LINE_MAX;
 use line::passed;
 use line::put_line;
 use listing::Listed;
 use opcode::record::OpCode;
+use places::is_outside;
+use places::is_wrong_size;
 use wording::Written;
 use writer::give;
 
-// The addresses that there are: an image ends with the last of them at the latest.
-const ADDRESSES: usize = 65536;
+// What writing rows came to: the place behind their lines, and the bytes of the image that they pass.
+struct Put {
+    next: usize,
+    passed: usize,
+}
 
 // The end of the bytes that a row looks at: up to four, none past the image's end.
 fn window_end(place: usize, length: usize) -> usize
@@ -26,6 +37,24 @@ fn window_end(place: usize, length: usize) -> usize
     place + OpCode::LENGTH_MAX
 }
 
+// The row at a place of the image.
+fn put_row(image: &[u8], origin: u16, place: usize, buf: &mut [u8], at: usize) -> Put
+    requires { ⌜ place < length (now image) ⌝ }
+    requires { ⌜ origin + length (now image) ≤ 65536 ⌝ }
+    ensures wrote { λ r. ⌜ Wrote (now (buf .entry)) at (lineOf (origin + place) (window (drop place (now (image .entry))))) (now (buf .exit)) (r .next) ⌝ }
+    ensures passed { λ r. ⌜ r .passed ≡ passedOf (window (drop place (now (image .entry)))) ⌝ }
+{
+    let end = window_end(place, image.len());
+    let ins = &image[place..end];
+    let decoded = disas(ins);
+    let address = origin + place as u16;
+    let next = put_line(buf, at, address, decoded, image[place]);
+    Put {
+        next,
+        passed: passed(decoded),
+    }
+}
+
 // The answer for a line that was written or did not fit.
 fn listed(written: Written, passed: usize) -> Listed
     ensures { λ r. ⌜ r ≡ listedOf written passed ⌝ }
@@ -36,37 +65,18 @@ fn listed(written: Written, passed: usize) -> Listed
     }
 }
 
-// The row that looks at `ins`. Its line is made in a place of its own, so that nothing is written where it does not fit.
-fn give_row(ins: &[u8], address: u16, out: &mut [u8]) -> Listed
-    requires { ⌜ 0 < length (now ins) ⌝ }
-    ensures answer { λ r. ⌜ r ≡ givenBy address (now (ins .entry)) (now (out .entry)) ⌝ }
-    ensures bytes { λ _. ⌜ now (out .exit) ≡ leftBy address (now (ins .entry)) (now (out .entry)) ⌝ }
+// The same row to the front of `out`. Its line is made in a place of its own, so that nothing is written where it does not fit.
+fn give_row(image: &[u8], origin: u16, place: usize, out: &mut [u8]) -> Listed
+    requires { ⌜ place < length (now image) ⌝ }
+    requires { ⌜ origin + length (now image) ≤ 65536 ⌝ }
+    ensures answer { λ r. ⌜ r ≡ givenBy (origin + place) (window (drop place (now (image .entry)))) (now (out .entry)) ⌝ }
+    ensures bytes { λ _. ⌜ now (out .exit) ≡ leftBy (origin + place) (window (drop place (now (image .entry)))) (now (out .entry)) ⌝ }
 {
-    let decoded = disas(ins);
     let mut line = [0u8; LINE_MAX];
-    let n = put_line(&mut line, 0, address, decoded, ins[0]);
-    let written = give(&line[0..n], out);
-    listed(written, passed(decoded))
-}
-
-// 5, ImageSize: the image is empty or goes beyond the last address.
-fn is_wrong_size(image: &[u8], origin: u16) -> bool
-    ensures { λ r. ⌜ r ≡ wrongSize (now (image .entry)) origin ⌝ }
-{
-    if image.len() == 0 {
-        return true;
-    }
-    ADDRESSES - (origin as usize) < image.len()
-}
-
-// 1, Nothing: the address is outside the image.
-fn is_outside(image: &[u8], origin: u16, address: u16) -> bool
-    ensures { λ r. ⌜ r ≡ outside (now (image .entry)) origin address ⌝ }
-{
-    if address < origin {
-        return true;
-    }
-    image.len() <= (address - origin) as usize
+    let put = put_row(image, origin, place, &mut line, 0);
+    let next = put.next;
+    let written = give(&line[0..next], out);
+    listed(written, put.passed)
 }
 
 // The row at an address of the image, whose first byte stands at `origin`: its line to the front of `out`.
@@ -80,7 +90,47 @@ pub fn row(image: &[u8], origin: u16, address: u16, out: &mut [u8]) -> Listed
     if is_outside(image, origin, address) {
         return Listed::Nothing;
     }
-    let place = (address - origin) as usize;
-    let end = window_end(place, image.len());
-    give_row(&image[place..end], address, out)
+    give_row(image, origin, (address - origin) as usize, out)
+}
+
+// The rows from a place on, each while there is room for the longest line.
+fn put_rows(image: &[u8], origin: u16, start: usize, out: &mut [u8]) -> Put
+    requires { ⌜ start ≤ length (now image) ⌝ }
+    requires { ⌜ origin + length (now image) ≤ 65536 ⌝ }
+    ensures count { λ r. ⌜ r .next ≡ length (printed (page (length (now (out .entry))) (listing (origin + start) (drop start (now (image .entry)))))) ⌝ }
+    ensures passed { λ r. ⌜ r .passed ≡ length (joined (page (length (now (out .entry))) (listing (origin + start) (drop start (now (image .entry)))))) ⌝ }
+    ensures bytes { λ _. ⌜ now (out .exit) ≡ printed (page (length (now (out .entry))) (listing (origin + start) (drop start (now (image .entry))))) ++ drop (length (printed (page (length (now (out .entry))) (listing (origin + start) (drop start (now (image .entry))))))) (now (out .entry)) ⌝ }
+{
+    let mut next = 0;
+    let mut place = start;
+    while place < image.len() && LINE_MAX <= out.len() - next {
+        let put = put_row(image, origin, place, out, next);
+        next = put.next;
+        place += put.passed;
+    }
+    Put {
+        next,
+        passed: place - start,
+    }
+}
+
+// The rows from an address on, as many as there is room for: their lines to the front of `out`, one behind the other.
+pub fn rows(image: &[u8], origin: u16, address: u16, out: &mut [u8]) -> Listed
+    ensures answer { λ r. ⌜ r ≡ rowsAnswer (now (image .entry)) origin address (now (out .entry)) ⌝ }
+    ensures bytes { λ _. ⌜ now (out .exit) ≡ rowsBytes (now (image .entry)) origin address (now (out .entry)) ⌝ }
+{
+    if is_wrong_size(image, origin) {
+        return Listed::ImageSize;
+    }
+    if is_outside(image, origin, address) {
+        return Listed::Nothing;
+    }
+    if out.len() < LINE_MAX {
+        return Listed::NoRoom;
+    }
+    let put = put_rows(image, origin, (address - origin) as usize, out);
+    Listed::Done {
+        count: put.next,
+        passed: put.passed,
+    }
 }

@@ -71,7 +71,7 @@ size {old} {new} {t} {i} p = ap length (p .bytes) ∙ over-length old i t
 
 -- a text that is written from the front, and fits, stands there; what it ends at is its length
 module _ {old t new : List ℕ} {j : ℕ} (p : Wrote old 0 t new j) (h : length t ≤ length old) where
-  whole : new ≡ t ++ drop (length t) old
+  pub whole : new ≡ t ++ drop (length t) old
   whole = p .bytes ∙ over-front old t h .0
 
   pub counted : j ≡ length t

@@ -4,10 +4,12 @@ use mathlib.Core.Bool.{Bool, true, false, _||_, true≢false}
 use mathlib.Core.List.{List, [], _∷_}
 use Prim.Native.Nat.{ℕ, zero, suc, _+_, _-_, _<_, _≤_, min}
 use native.Mathlib.Omega.{arith}
-use lib.Dec.{ltb, leb}
-use lib.ListN.{length, take}
+use lib.Dec.{eqb, ltb, leb}
+use lib.ListN.{length, take, drop, getD}
 use borrow.Author.Tests.{ltb-true, ltb-false, leb-true, leb-false, lt-ltb, le-ltb, le-leb, lt-leb}
-use Rattle.listing.specs.Answers.{outside}
+use Rattle.table.specs.Consequences.{first}
+use Rattle.listing.specs.Rows.{window}
+use Rattle.listing.specs.Answers.{wrongSize, outside}
 
 alike : (x y : Bool) → (x ≡ true → y ≡ true) → (x ≡ false → y ≡ false) → x ≡ y
 alike true y up down = sym (up refl)
@@ -28,6 +30,10 @@ neither : (x y : Bool) → (x || y) ≡ false → (x ≡ false) × (y ≡ false)
 neither true y e = absurd (true≢false e)
 neither false y e = (refl, e)
 
+-- an image whose size is right
+pub right-size : (image : List ℕ) (origin : ℕ) → wrongSize image origin ≡ false → origin + length image ≤ 65536
+right-size image origin e = ltb-false 65536 (origin + length image) (neither (eqb (length image) 0) (ltb 65536 (origin + length image)) e .1)
+
 -- an address that is not outside
 pub inside : (image : List ℕ) (origin address : ℕ) → outside image origin address ≡ false → (origin ≤ address) × (address < origin + length image)
 inside image origin address e =
@@ -42,3 +48,10 @@ first-of (suc n) zero [] e = refl
 first-of (suc n) (suc m) [] e = refl
 first-of (suc n) zero (b ∷ s) e = absurd (omega arith)
 first-of (suc n) (suc m) (b ∷ s) e = ap (λ (l : List ℕ). b ∷ l) (first-of n m s (omega arith))
+
+-- the byte at a place is the first that a row there looks at
+pub first-at : (k : ℕ) (s : List ℕ) → getD s k 0 ≡ first (window (drop k s))
+first-at zero [] = refl
+first-at zero (b ∷ s) = refl
+first-at (suc k) [] = refl
+first-at (suc k) (b ∷ s) = first-at k s

@@ -1,13 +1,13 @@
 -- `is_wrong_size` meets its contract: the sum is told by a difference. Assumes nothing.
-use borrow.Author.Tests.{eq-eqb, ne-eqb}
 use mathlib.Core.Path.{refl}
 use native.Mathlib.Omega.{arith}
-use Rattle.rom.proofs.Places.{over-told}
 use lib.ListN.{length}
+use borrow.Author.Tests.{eq-eqb, ne-eqb}
 use denote.Ref.{now}
+use Rattle.rom.proofs.Inside.{over-told}
 use borrow.Author.Needs.{needs}
-use Rattle.rom.proofs.is_wrong_size.Statement.{statement}
-use Rattle.rom.proofs.is_wrong_size.Tie as tie
+use Rattle.rom.proofs.places.is_wrong_size.Statement.{statement}
+use Rattle.rom.proofs.places.is_wrong_size.Tie as tie
 
 returns : tie.Need-returns
 returns c = rw (eq-eqb _ _ (c .if1 .taken)) refl

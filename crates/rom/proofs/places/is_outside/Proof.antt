@@ -1,12 +1,12 @@
 -- `is_outside` meets its contract: the sum is told by a difference. Assumes nothing.
-use borrow.Author.Tests.{lt-ltb, le-ltb}
 use mathlib.Core.Path.{refl}
-use Rattle.rom.proofs.Places.{past-told}
 use lib.ListN.{length}
+use borrow.Author.Tests.{lt-ltb, le-ltb}
 use denote.Ref.{now}
+use Rattle.rom.proofs.Inside.{past-told}
 use borrow.Author.Needs.{needs}
-use Rattle.rom.proofs.is_outside.Statement.{statement}
-use Rattle.rom.proofs.is_outside.Tie as tie
+use Rattle.rom.proofs.places.is_outside.Statement.{statement}
+use Rattle.rom.proofs.places.is_outside.Tie as tie
 
 returns : tie.Need-returns
 returns c = rw (lt-ltb _ _ (c .if1 .taken)) refl

@@ -1,0 +1,106 @@
+-- Rows written one behind the other: what holds before each, and when no more are. Assumes nothing.
+use mathlib.Core.Path.{_≡_, refl, sym, ap, _∙_}
+use mathlib.Core.Logic.{_⊎_, inl, inr}
+use mathlib.Core.List.{List, [], _∷_, _++_, append-assoc, append-nil}
+use Prim.Native.Nat.{ℕ, _+_, _-_, _<_, _≤_}
+use native.Mathlib.Omega.{arith}
+use lib.ListN.{length, take, drop, length-append, length-drop}
+use lib.Seq.{drop-drop}
+use Rattle.table.specs.Consequences.{AllBytes}
+use Rattle.writer.specs.Wrote.{Wrote}
+use Rattle.writer.proofs.Laws.{_▸_, none, counted, whole}
+use Rattle.listing.specs.Rows.{window, lineOf, passedOf, Row, rowAt, listing, printed, joined}
+use Rattle.listing.specs.Page.{page}
+use Rattle.listing.proofs.Passed.{passed-least, passed-within}
+use Rattle.listing.proofs.Longest.{line-most, window-bytes}
+use Rattle.listing.proofs.Page.{page-next, page-full, page-none, passed-bytes}
+
+module _ (image : List ℕ) (origin start : ℕ) (old : List ℕ) where
+  -- the rows from a place on that are written to so much room
+  abbrev pub onwards : ℕ → ℕ → List Row
+  onwards place room = page room (listing (origin + place) (drop place image))
+
+  -- `done` is written, and with what the rows from here on have makes all lines; the bytes passed likewise
+  pub record Filling (out : List ℕ) (next place : ℕ) : Type 0 where
+    pub done : List ℕ
+    pub wrote : Wrote old 0 done out next
+    pub fits : length done ≤ length old
+    pub inside : place ≤ length image
+    pub further : start ≤ place
+    pub lines : done ++ printed (onwards place (length old - length done)) ≡ printed (onwards start (length old))
+    pub passes : place + length (joined (onwards place (length old - length done))) ≡ start + length (joined (onwards start (length old)))
+
+  pub begins : start ≤ length image → Filling old 0 start
+  begins h =
+      let e : length old - 0 ≡ length old = omega arith in
+      record {
+        done = [];
+        wrote = none old 0;
+        fits = omega arith;
+        inside = h;
+        further = omega arith;
+        lines = ap (λ (n : ℕ). printed (onwards start n)) e;
+        passes = ap (λ (n : ℕ). start + length (joined (onwards start n))) e;
+      }
+
+  module _ {out : List ℕ} {next place : ℕ} (bytes : AllBytes image) (f : Filling out next place) (some : place < length image) (room : 58 ≤ length old - next) where
+    abbrev here : List ℕ
+    here = drop place image
+
+    abbrev line : List ℕ
+    line = lineOf (origin + place) (window here)
+
+    abbrev passed : ℕ
+    passed = passedOf (window here)
+
+    reached : next ≡ length (f .done)
+    reached = counted (f .wrote) (f .fits)
+
+    any : 1 ≤ length here
+    any = omega (arith, length-drop place image)
+
+    size : length (f .done ++ line) ≡ length (f .done) + length line
+    size = length-append (f .done) line
+
+    -- the rows from here on are this one and those behind it
+    split : onwards place (length old - length (f .done)) ≡ rowAt (origin + place) here ∷ onwards (place + passed) (length old - length (f .done ++ line))
+    split =
+        let left : length old - length (f .done) - length line ≡ length old - length (f .done ++ line) = omega (arith, size) in
+        let address : origin + place + passed ≡ origin + (place + passed) = omega arith in
+        page-next (length old - length (f .done)) (origin + place) here any (omega (arith, reached))
+        ∙ ap (λ (n : ℕ). rowAt (origin + place) here ∷ page n (listing (origin + place + passed) (drop passed here))) left
+        ∙ ap (λ (a : ℕ). rowAt (origin + place) here ∷ page (length old - length (f .done ++ line)) (listing a (drop passed here))) address
+        ∙ ap (λ (l : List ℕ). rowAt (origin + place) here ∷ page (length old - length (f .done ++ line)) (listing (origin + (place + passed)) l)) (drop-drop passed place image)
+
+    pub goes-on : {new : List ℕ} {behind : ℕ} → Wrote out next line new behind → Filling new behind (place + passed)
+    goes-on w =
+        let rest = onwards (place + passed) (length old - length (f .done ++ line)) in
+        let most = line-most (origin + place) (window here) (window-bytes place image bytes) in
+        let more = length-append (take passed here) (joined rest) in
+        record {
+          done = f .done ++ line;
+          wrote = f .wrote ▸ w;
+          fits = omega (arith, size, most, reached);
+          inside = omega (arith, passed-within here any, length-drop place image);
+          further = omega (arith, f .further);
+          lines = append-assoc (f .done) line (printed rest) ∙ ap (λ (rs : List Row). f .done ++ printed rs) (sym split) ∙ f .lines;
+          passes = omega (arith, more, passed-bytes here any, ap (λ (rs : List Row). place + length (joined rs)) split, f .passes);
+        }
+
+  module _ {out : List ℕ} {next place : ℕ} (f : Filling out next place) (over : (length image ≤ place) ⊎ (length old - next < 58)) where
+    -- no row is left, or no room
+    none-left : (length image ≤ place) ⊎ (length old - next < 58) → onwards place (length old - length (f .done)) ≡ []
+    none-left (inl end) = page-none (length old - length (f .done)) (origin + place) (drop place image) (omega (arith, length-drop place image))
+    none-left (inr full) = page-full (length old - length (f .done)) (listing (origin + place) (drop place image)) (omega (arith, counted (f .wrote) (f .fits)))
+
+    all : f .done ≡ printed (onwards start (length old))
+    all = sym (append-nil (f .done)) ∙ ap (λ (rs : List Row). f .done ++ printed rs) (sym (none-left over)) ∙ f .lines
+
+    pub ends-count : next ≡ length (printed (onwards start (length old)))
+    ends-count = counted (f .wrote) (f .fits) ∙ ap length all
+
+    pub ends-passed : place - start ≡ length (joined (onwards start (length old)))
+    ends-passed = omega (arith, f .passes, f .further, ap (λ (rs : List Row). length (joined rs)) (none-left over))
+
+    pub ends-bytes : out ≡ printed (onwards start (length old)) ++ drop (length (printed (onwards start (length old)))) old
+    ends-bytes = whole (f .wrote) (f .fits) ∙ ap (λ (l : List ℕ). l ++ drop (length l) old) all

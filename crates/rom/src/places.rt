@@ -1,0 +1,26 @@
+// Places of an image, whose first byte stands at the address `origin`.
+ghost use mathlib.Core.Path.{_≡_};
+ghost use Rattle.listing.specs.Answers.{wrongSize, outside};
+
+// The addresses that there are: an image ends with the last of them at the latest.
+const ADDRESSES: usize = 65536;
+
+// 5, ImageSize: the image is empty or goes beyond the last address.
+pub fn is_wrong_size(image: &[u8], origin: u16) -> bool
+    ensures { λ r. ⌜ r ≡ wrongSize (now (image .entry)) origin ⌝ }
+{
+    if image.len() == 0 {
+        return true;
+    }
+    ADDRESSES - (origin as usize) < image.len()
+}
+
+// 1, Nothing: the address is outside the image.
+pub fn is_outside(image: &[u8], origin: u16, address: u16) -> bool
+    ensures { λ r. ⌜ r ≡ outside (now (image .entry)) origin address ⌝ }
+{
+    if address < origin {
+        return true;
+    }
+    image.len() <= (address - origin) as usize
+}
