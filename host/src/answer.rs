@@ -12,6 +12,7 @@ pub enum Refusal {
     Short = 2,
     Long = 3,
     NoRoom = 4,
+    ImageSize = 5,
 }
 
 /// The original's record; long input is told apart first because the original panics on it.

@@ -10,6 +10,7 @@ pub mod calls;
 pub mod exported;
 pub mod function;
 pub mod inputs;
+pub mod listing;
 pub mod mixed;
 pub mod outcome;
 pub mod pages;

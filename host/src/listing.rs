@@ -1,0 +1,162 @@
+//! The rows of an image, as document 01's 'Listing' says, in the original's own words.
+
+use crate::answer::{Refusal, LARGEST_INPUT};
+use crate::function::TEXT_MAX;
+use crate::original::disas;
+
+/// The bytes of a whole address space, past whose end no image may reach.
+pub const ADDRESSES: usize = 65_536;
+
+/// The longest line: address, space, full text, LF.
+pub const LINE_MAX: usize = 4 + 1 + TEXT_MAX + 1;
+
+/// An image that begins at an origin, and the address where a row is asked for.
+#[derive(Debug, Clone, Copy)]
+pub struct Place<'a> {
+    pub image: &'a [u8],
+    pub origin: u16,
+    pub address: u16,
+}
+
+/// A line, and how many bytes further the next row begins.
+#[derive(Debug, PartialEq, Eq, Clone)]
+pub struct Row {
+    pub line: Vec<u8>,
+    pub passed: usize,
+}
+
+impl Place<'_> {
+    /// The row here. Where the original gives no record of the bytes, the first of them is shown and passed.
+    pub fn row(&self) -> Result<Row, Refusal> {
+        let window = self.window()?;
+        let (text, passed) = match disas(window) {
+            Some(opcode) => (format!("{opcode:?}"), opcode.length as usize),
+            None => (format!("{:02X} \t\t?", window[0]), 1),
+        };
+        let line = format!("{:04X} {text}\n", self.address).into_bytes();
+        Ok(Row { line, passed })
+    }
+
+    /// The image's bytes from the address on, at most four; or the refusal, of the image before the address.
+    fn window(&self) -> Result<&[u8], Refusal> {
+        let (origin, address) = (self.origin as usize, self.address as usize);
+        let end = origin + self.image.len();
+        if self.image.is_empty() || end > ADDRESSES {
+            return Err(Refusal::ImageSize);
+        }
+        if address < origin || address >= end {
+            return Err(Refusal::Nothing);
+        }
+        let rest = &self.image[address - origin..];
+        Ok(&rest[..rest.len().min(LARGEST_INPUT)])
+    }
+}
+
+/// The rows of a whole image, each beginning where the one before ends.
+pub fn listing(image: &[u8], origin: u16) -> Result<Vec<Row>, Refusal> {
+    let (mut rows, mut at) = (vec![], 0);
+    loop {
+        let place = Place {
+            image,
+            origin,
+            address: origin + at as u16,
+        };
+        let row = place.row()?;
+        at += row.passed;
+        rows.push(row);
+        if at >= image.len() {
+            return Ok(rows);
+        }
+    }
+}
+
+#[cfg(test)]
+mod tests {
+    use super::*;
+
+    const EXAMPLE: [u8; 7] = [0x21, 0x34, 0x12, 0x3E, 0x05, 0xDD, 0x23];
+
+    fn row(image: &[u8], origin: u16, address: u16) -> Result<Row, Refusal> {
+        let place = Place {
+            image,
+            origin,
+            address,
+        };
+        place.row()
+    }
+
+    fn done(line: &str, passed: usize) -> Result<Row, Refusal> {
+        let line = line.as_bytes().to_vec();
+        Ok(Row { line, passed })
+    }
+
+    #[test]
+    fn example() {
+        let rows = listing(&EXAMPLE, 0).unwrap();
+        let lines: Vec<Vec<u8>> = rows.iter().map(|row| row.line.clone()).collect();
+        let expected = b"0000 21 34 12 \t\tLD\tHL, 1234 [4, 3, 3, 0, 0, 0]\n\
+            0003 3E 05 \t\tLD\tA, 05 [4, 3, 0, 0, 0, 0]\n\
+            0005 DD \t\t?\n\
+            0006 23 \t\tINC\tHL [6, 0, 0, 0, 0, 0]\n";
+        assert_eq!(lines.concat(), expected);
+        let passed: Vec<usize> = rows.iter().map(|row| row.passed).collect();
+        assert_eq!(passed, [3, 2, 1, 1]);
+    }
+
+    #[test]
+    fn example_elsewhere() {
+        let short = done("ABD2 DD \t\t?\n", 1);
+        assert_eq!(row(&EXAMPLE, 0xABCD, 0xABD2), short);
+        let inside = done("ABCE 34 \t\tINC\t(HL) [4, 4, 3, 0, 0, 0]\n", 1);
+        assert_eq!(row(&EXAMPLE, 0xABCD, 0xABCE), inside);
+    }
+
+    #[test]
+    fn outside() {
+        for address in [0x0000, 0xABCC, 0xABD4, 0xFFFF] {
+            let refused = row(&EXAMPLE, 0xABCD, address);
+            assert_eq!(refused, Err(Refusal::Nothing), "{address:04X}");
+        }
+    }
+
+    /// An image of the wrong size is refused wherever the address is, inside or out.
+    #[test]
+    fn image_size_first() {
+        for address in [0x0000, 0xFFF9, 0xFFFA, 0xFFFF] {
+            assert_eq!(row(&[], 0, address), Err(Refusal::ImageSize));
+            assert_eq!(row(&EXAMPLE, 0xFFFA, address), Err(Refusal::ImageSize));
+        }
+        assert_eq!(row(&[0; ADDRESSES + 1], 0, 0), Err(Refusal::ImageSize));
+        assert_eq!(listing(&[], 0), Err(Refusal::ImageSize));
+        assert_eq!(listing(&EXAMPLE, 0xFFFA), Err(Refusal::ImageSize));
+    }
+
+    /// The window at the last address has one byte, whatever stands at the first one.
+    #[test]
+    fn full_image() {
+        let mut image = vec![0x00; ADDRESSES];
+        image[ADDRESSES - 1] = 0xDD;
+        assert_eq!(row(&image, 0, 0xFFFF), done("FFFF DD \t\t?\n", 1));
+        let before = done("FFFE 00 \t\tNOP\t [4, 0, 0, 0, 0, 0]\n", 1);
+        assert_eq!(row(&image, 0, 0xFFFE), before);
+        assert_eq!(row(&image, 1, 0xFFFF), Err(Refusal::ImageSize));
+        assert_eq!(listing(&image, 0).unwrap().len(), ADDRESSES);
+    }
+
+    #[test]
+    fn last_origin() {
+        let halt = done("FFFF 76 \t\tHALT\t [4, 0, 0, 0, 0, 0]\n", 1);
+        assert_eq!(row(&[0x76], 0xFFFF, 0xFFFF), halt);
+        assert_eq!(row(&[0x76], 0xFFFF, 0x0000), Err(Refusal::Nothing));
+        assert_eq!(row(&[0x76], 0xFFFF, 0xFFFE), Err(Refusal::Nothing));
+        assert_eq!(row(&[0x76, 0x76], 0xFFFF, 0xFFFF), Err(Refusal::ImageSize));
+        assert_eq!(listing(&[0x76], 0xFFFF).unwrap().len(), 1);
+    }
+
+    #[test]
+    fn longest_line() {
+        let row = row(&[0xDD, 0xCB, 0x80, 0xC7], 0, 0).unwrap();
+        assert_eq!((row.line.len(), row.passed), (LINE_MAX, 4));
+        assert_eq!(LINE_MAX, 58);
+    }
+}
