@@ -1,31 +1,109 @@
 //! Calls that are asked for together.
 
+use crate::asked::Asked;
 use crate::function::Function;
+use crate::listing::Place;
 
-/// Calls of one function whose inputs differ in their last bytes alone: the fixed bytes, then every choice of 0 to 2 free
-/// ones; each input in each of the rooms.
+/// All that is asked about, in each of the rooms.
 pub struct Calls {
-    pub function: Function,
     pub rooms: Vec<u8>,
+    pub about: About,
+}
+
+pub enum About {
+    Inputs(Inputs),
+    Places(Places),
+}
+
+/// Inputs of one function that differ in their last bytes alone: the fixed bytes, then every choice of 0 to 2 free ones.
+pub struct Inputs {
+    pub function: Function,
     pub free: u8,
     pub fixed: Vec<u8>,
 }
 
+/// The number that the bridge knows `z80_row` by.
+const ROW: u8 = 3;
+
+/// So many zeros stand behind an image, the same on every machine: where they are read, a row is no longer Short.
+const BEHIND: usize = 4;
+
+/// Rows of one image: so many addresses from the first on, modulo 65,536.
+pub struct Places {
+    image_and_behind: Vec<u8>,
+    origin: u16,
+    first: u16,
+    count: u32,
+}
+
 impl Calls {
-    /// The inputs in order.
-    pub fn inputs(&self) -> impl Iterator<Item = Vec<u8>> + '_ {
+    /// What is asked, in order.
+    pub fn asked(&self) -> Box<dyn Iterator<Item = Asked<'_>> + '_> {
+        match &self.about {
+            About::Inputs(inputs) => Box::new(inputs.asked()),
+            About::Places(places) => Box::new(places.asked()),
+        }
+    }
+
+    /// As the bridge reads them: the function, what is asked about, the rooms' count and the rooms.
+    pub fn request(&self) -> Vec<u8> {
+        let about = match &self.about {
+            About::Inputs(inputs) => inputs.request(),
+            About::Places(places) => places.request(),
+        };
+        [&about, &[self.rooms.len() as u8][..], &self.rooms].concat()
+    }
+}
+
+impl Inputs {
+    fn asked(&self) -> impl Iterator<Item = Asked<'_>> {
         (0..1usize << (8 * self.free)).map(|k| {
             let free = &(k as u16).to_be_bytes()[2 - self.free as usize..];
-            [&self.fixed, free].concat()
+            Asked::Bytes(self.function, [&self.fixed, free].concat())
         })
     }
 
-    /// As the bridge reads them: function, free bytes, the fixed bytes' count low and high, the rooms' count, then the fixed
-    /// bytes and the rooms.
-    pub fn request(&self) -> Vec<u8> {
-        let [low, high] = (self.fixed.len() as u16).to_le_bytes();
-        let rooms = self.rooms.len() as u8;
-        let head = [self.function as u8, self.free, low, high, rooms];
-        [&head, &self.fixed[..], &self.rooms].concat()
+    /// Function, free bytes, the fixed bytes' count, those; numbers here and below low byte first.
+    fn request(&self) -> Vec<u8> {
+        let head = [self.function as u8, self.free];
+        let count = self.fixed.len() as u16;
+        [&head, &count.to_le_bytes()[..], &self.fixed].concat()
+    }
+}
+
+impl Places {
+    pub fn new(image: &[u8], origin: u16, first: u16, count: u32) -> Places {
+        Places {
+            image_and_behind: [image, &[0; BEHIND]].concat(),
+            origin,
+            first,
+            count,
+        }
+    }
+
+    fn image(&self) -> &[u8] {
+        &self.image_and_behind[..self.image_and_behind.len() - BEHIND]
+    }
+
+    fn asked(&self) -> impl Iterator<Item = Asked<'_>> {
+        (0..self.count).map(|k| {
+            Asked::Row(Place {
+                image: self.image(),
+                origin: self.origin,
+                address: self.first.wrapping_add(k as u16),
+            })
+        })
+    }
+
+    /// Function, origin, first address, how many, the image's count, and the image.
+    fn request(&self) -> Vec<u8> {
+        let image = self.image();
+        let mut request = vec![ROW];
+        request.extend(self.origin.to_le_bytes());
+        request.extend(self.first.to_le_bytes());
+        request.extend(self.count.to_le_bytes());
+        request.extend((image.len() as u32).to_le_bytes());
+        request.extend(image);
+        request
     }
 }

@@ -3,12 +3,14 @@
 #[cfg(not(linked))]
 pub use bridge::Exported;
 #[cfg(linked)]
-pub use linked::{z80_full_text, z80_record, z80_text, Exported};
+pub use linked::{z80_full_text, z80_record, z80_row, z80_text, Exported};
 
 #[cfg(linked)]
 mod linked {
+    use crate::asked::Asked;
     use crate::function::Function;
-    use crate::outcome::{Call, Outcome};
+    use crate::listing::Place;
+    use crate::outcome::{Call, Lent, Outcome};
     use std::io;
 
     mod sys {
@@ -28,6 +30,16 @@ mod linked {
                 out: *mut u8,
                 out_len: usize,
                 count: *mut u32,
+            ) -> u8;
+            pub fn z80_row(
+                image: *const u8,
+                image_len: usize,
+                origin: u16,
+                address: u16,
+                out: *mut u8,
+                out_len: usize,
+                count: *mut u32,
+                passed: *mut u32,
             ) -> u8;
         }
     }
@@ -49,6 +61,28 @@ mod linked {
         unsafe { sys::z80_full_text(ins.as_ptr(), ins.len(), out.as_mut_ptr(), out.len(), count) }
     }
 
+    /// The line at a place at the front of `out`, its length in `count`, the bytes passed in `passed`, and the answer number.
+    pub fn z80_row(place: &Place, out: &mut [u8], count: &mut u32, passed: &mut u32) -> u8 {
+        let Place {
+            image,
+            origin,
+            address,
+        } = *place;
+        let (to, room) = (out.as_mut_ptr(), out.len());
+        unsafe {
+            sys::z80_row(
+                image.as_ptr(),
+                image.len(),
+                origin,
+                address,
+                to,
+                room,
+                count,
+                passed,
+            )
+        }
+    }
+
     pub struct Exported;
 
     impl Exported {
@@ -58,11 +92,17 @@ mod linked {
 
         pub fn call(&mut self, call: &Call) -> io::Result<Outcome> {
             let mut lent = call.before;
-            let (out, count) = (&mut lent.buffer[..call.room], &mut lent.count);
-            let number = match call.function {
-                Function::Record => z80_record(call.ins, out),
-                Function::Text => z80_text(call.ins, out, count),
-                Function::FullText => z80_full_text(call.ins, out, count),
+            let Lent {
+                count,
+                passed,
+                buffer,
+            } = &mut lent;
+            let out = &mut buffer[..call.room];
+            let number = match call.asked {
+                Asked::Bytes(Function::Record, ins) => z80_record(ins, out),
+                Asked::Bytes(Function::Text, ins) => z80_text(ins, out, count),
+                Asked::Bytes(Function::FullText, ins) => z80_full_text(ins, out, count),
+                Asked::Row(place) => z80_row(place, out, count, passed),
             };
             Ok(Outcome { number, lent })
         }
@@ -75,13 +115,13 @@ mod linked {
 
 #[cfg(not(linked))]
 mod bridge {
-    use crate::outcome::{Call, Lent, Outcome, LOOKED_AT};
-    use crate::runs::runs;
+    use crate::outcome::{Call, Lent, Outcome};
+    use crate::runs::groups;
     use std::io::{self, BufReader, BufWriter, Read, Write};
     use std::process::{Child, ChildStdin, ChildStdout, Command, Stdio};
     use std::thread;
 
-    /// The bridge, with the outcomes of all calls of `runs` to come from it.
+    /// The bridge, with the outcomes of all calls of `groups` to come from it.
     pub struct Exported {
         child: Child,
         outcomes: BufReader<ChildStdout>,
@@ -109,16 +149,22 @@ mod bridge {
             })
         }
 
-        /// The outcome of the next call of `runs`, which is the one given: number, count low byte first, buffer.
+        /// The outcome of the next call of `groups`, which is the one given: number, count and bytes passed, low byte first,
+        /// buffer.
         pub fn call(&mut self, _: &Call) -> io::Result<Outcome> {
-            let (mut number, mut count, mut buffer) = ([0], [0; 4], [0; LOOKED_AT]);
-            self.outcomes.read_exact(&mut number)?;
-            self.outcomes.read_exact(&mut count)?;
-            self.outcomes.read_exact(&mut buffer)?;
-            let [number] = number;
-            let count = u32::from_le_bytes(count);
-            let lent = Lent { count, buffer };
+            let [number] = self.next()?;
+            let lent = Lent {
+                count: u32::from_le_bytes(self.next()?),
+                passed: u32::from_le_bytes(self.next()?),
+                buffer: self.next()?,
+            };
             Ok(Outcome { number, lent })
+        }
+
+        fn next<const N: usize>(&mut self) -> io::Result<[u8; N]> {
+            let mut bytes = [0; N];
+            self.outcomes.read_exact(&mut bytes)?;
+            Ok(bytes)
         }
 
         /// The bridge has no more to say and ended well.
@@ -133,7 +179,7 @@ mod bridge {
 
     fn ask(requests: ChildStdin) -> io::Result<()> {
         let mut requests = BufWriter::new(requests);
-        for (_, run) in runs() {
+        for (_, run) in groups().into_iter().flat_map(|group| group.runs) {
             for calls in run {
                 requests.write_all(&calls.request())?;
             }

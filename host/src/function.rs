@@ -1,4 +1,4 @@
-//! The exported functions, and what the original has each of them write.
+//! The exported functions of a row's bytes, and what the original has each of them write.
 
 use crate::answer::{decoded, Refusal};
 use crate::record::record;
@@ -14,22 +14,15 @@ pub enum Function {
     FullText = 2,
 }
 
-/// The bytes written where there is room for them, or the refusal that comes before the room is looked at.
-pub type Said = Result<Vec<u8>, Refusal>;
-
 impl Function {
-    /// What the original says of some bytes: its record, its Display, its Debug.
-    pub fn said(self, ins: &[u8]) -> Said {
+    /// What the original says of some bytes, its record, its Display, its Debug; or the refusal that comes before the room
+    /// is looked at.
+    pub fn said(self, ins: &[u8]) -> Result<Vec<u8>, Refusal> {
         let opcode = decoded(ins)?;
         Ok(match self {
             Function::Record => record(opcode).to_vec(),
             Function::Text => format!("{opcode}").into_bytes(),
             Function::FullText => format!("{opcode:?}").into_bytes(),
         })
-    }
-
-    /// Whether it also writes a count to a lent number.
-    pub fn has_count(self) -> bool {
-        self != Function::Record
     }
 }

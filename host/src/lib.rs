@@ -6,14 +6,18 @@
 pub mod original;
 
 pub mod answer;
+pub mod asked;
 pub mod calls;
 pub mod exported;
 pub mod function;
+pub mod images;
 pub mod inputs;
 pub mod listing;
 pub mod mixed;
 pub mod outcome;
 pub mod pages;
 pub mod record;
+pub mod row_runs;
 pub mod runs;
 pub mod stored;
+pub mod tally;

@@ -1,22 +1,23 @@
 //! What a call of an exported function answers and leaves in what was lent to it, and what it should.
 
 use crate::answer::Refusal;
-use crate::function::{Function, Said};
+use crate::asked::{Asked, Said};
+use crate::function::Function;
 
-/// The bytes that are looked at: all of the largest room lent. Those past a smaller room must stay as they were, too.
-pub const LOOKED_AT: usize = 56;
+/// The bytes that are looked at: more than the largest room lent. Those past a room must stay as they were.
+pub const LOOKED_AT: usize = 64;
 
-/// What a function may write to. One that has no count must leave it as it was.
+/// What a function may write to. One that has no count, or passes no bytes, must leave that number as it was.
 #[derive(Debug, PartialEq, Eq, Clone, Copy)]
 pub struct Lent {
     pub count: u32,
+    pub passed: u32,
     pub buffer: [u8; LOOKED_AT],
 }
 
 /// One call, with what stands in the lent places before it; of the buffer `room` bytes are lent.
 pub struct Call<'a> {
-    pub function: Function,
-    pub ins: &'a [u8],
+    pub asked: &'a Asked<'a>,
     pub room: usize,
     pub before: Lent,
 }
@@ -27,133 +28,127 @@ pub struct Outcome {
     pub lent: Lent,
 }
 
-/// What is lent to the k-th call of some: another count, none of them zero or a text's, and another pattern for each.
+/// What is lent to the k-th call of some: other numbers, none of them ever right, and another pattern for each.
 pub fn filled(k: usize) -> Lent {
     Lent {
         count: 0xA5A5_0000 + k as u32,
+        passed: 0x5A5A_0000 + k as u32,
         buffer: std::array::from_fn(|place| (31 * k + 7 * place + 1) as u8),
     }
 }
 
-/// Where the room holds what the original says, that at the buffer's front and its length; else zero and a refusal.
+/// Where the room holds what the original says, that at the buffer's front and its numbers; else zeros and a refusal.
 pub fn expected(call: &Call, said: &Said) -> Outcome {
     let mut lent = call.before;
-    let (number, count) = match said {
-        Ok(bytes) if bytes.len() <= call.room => {
-            lent.buffer[..bytes.len()].copy_from_slice(bytes);
-            (0, bytes.len())
+    let (number, count, passed) = match said {
+        Ok(written) if written.bytes.len() <= call.room => {
+            let count = written.bytes.len();
+            lent.buffer[..count].copy_from_slice(&written.bytes);
+            (0, count, written.passed)
         }
-        Ok(_) => (Refusal::NoRoom as u8, 0),
-        Err(refusal) => (*refusal as u8, 0),
+        Ok(_) => (Refusal::NoRoom as u8, 0, 0),
+        Err(refusal) => (*refusal as u8, 0, 0),
     };
-    if call.function.has_count() {
-        lent.count = count as u32;
+    match call.asked {
+        Asked::Bytes(Function::Record, _) => (),
+        Asked::Bytes(_, _) => lent.count = count as u32,
+        Asked::Row(_) => (lent.count, lent.passed) = (count as u32, passed as u32),
     }
     Outcome { number, lent }
 }
 
 /// Where a call's outcome is not the expected one: the call and both outcomes.
-pub fn difference(call: &Call, said: &Said, found: Outcome) -> Option<String> {
-    let expected = expected(call, said);
+pub fn difference(call: &Call, expected: Outcome, found: Outcome) -> Option<String> {
     (found != expected).then(|| {
-        format!(
-            "{:?} of {:02X?}, room {}\n  original {}\n  here     {}",
-            call.function,
-            call.ins,
-            call.room,
-            shown(expected),
-            shown(found)
-        )
+        let Call { asked, room, .. } = call;
+        let (expected, found) = (shown(expected), shown(found));
+        format!("{asked}, room {room}\n  original {expected}\n  here     {found}")
     })
 }
 
-fn shown(outcome: Outcome) -> String {
-    let Outcome { number, lent } = outcome;
-    format!("{number}, count {}, {:02X?}", lent.count, lent.buffer)
+fn shown(Outcome { number, lent }: Outcome) -> String {
+    let Lent {
+        count,
+        passed,
+        buffer,
+    } = lent;
+    format!("{number}, count {count}, passed {passed}, {buffer:02X?}")
 }
 
 #[cfg(test)]
 mod tests {
     use super::*;
+    use crate::listing::Place;
     use Function::{FullText, Record, Text};
 
-    /// A call, and what it should answer and leave.
-    fn expected_of(function: Function, ins: &[u8], room: usize) -> (Call<'_>, Said, Outcome) {
+    /// A row at the front of an image.
+    fn front(image: &[u8]) -> Asked<'_> {
+        Asked::Row(Place {
+            image,
+            origin: 0xABCD,
+            address: 0xABCD,
+        })
+    }
+
+    /// Each function on the same bytes; for a row they are the image.
+    fn each(bytes: &[u8]) -> [Asked<'_>; 4] {
+        let [record, text, full_text] =
+            [Record, Text, FullText].map(|function| Asked::Bytes(function, bytes.to_vec()));
+        [record, text, full_text, front(bytes)]
+    }
+
+    fn outcome(asked: &Asked, room: usize) -> Outcome {
         let before = filled(5);
         let call = Call {
-            function,
-            ins,
+            asked,
             room,
             before,
         };
-        let said = function.said(ins);
-        let outcome = expected(&call, &said);
-        (call, said, outcome)
+        expected(&call, &asked.said())
     }
 
-    /// Whether `difference` sees the expected outcome of these bytes once it is damaged.
-    fn is_seen(f: Function, ins: &[u8], room: usize, damage: impl Fn(&mut Outcome)) -> bool {
-        let (call, said, mut found) = expected_of(f, ins, room);
-        damage(&mut found);
-        difference(&call, &said, found).is_some()
+    /// Whether a damage is seen with every function: where it is Done, in too small a room, and where the bytes are refused.
+    fn is_seen(damage: impl Fn(&mut Outcome)) -> bool {
+        let cases = [(&[0x18, 0x80][..], 56), (&[0x18, 0x80], 21), (&[], 56)];
+        cases.iter().all(|&(bytes, room)| {
+            each(bytes).iter().all(|asked| {
+                let before = filled(5);
+                let call = Call {
+                    asked,
+                    room,
+                    before,
+                };
+                let mut found = outcome(asked, room);
+                damage(&mut found);
+                difference(&call, outcome(asked, room), found).is_some()
+            })
+        })
     }
 
     #[test]
-    fn undamaged() {
-        for function in [Record, Text, FullText] {
-            for ins in [&[][..], &[0xDD], &[0x18, 0x80], &[0; 5]] {
-                for room in 0..=LOOKED_AT {
-                    assert!(!is_seen(function, ins, room, |_| ()));
-                }
-            }
+    fn damage_is_seen() {
+        assert!(!is_seen(|_| ()));
+        assert!(is_seen(|found| found.number ^= 2));
+        assert!(is_seen(|found| found.lent.count += 1));
+        assert!(is_seen(|found| found.lent.count ^= 1 << 31));
+        assert!(is_seen(|found| found.lent.passed += 1));
+        assert!(is_seen(|found| found.lent.passed ^= 1 << 31));
+        for place in 0..LOOKED_AT {
+            assert!(is_seen(|found| found.lent.buffer[place] ^= 1));
         }
     }
 
-    #[test]
-    fn damaged_number() {
-        for function in [Record, Text, FullText] {
-            assert!(is_seen(function, &[0x18, 0x80], 40, |found| found.number = 2));
-            assert!(is_seen(function, &[0x18, 0x80], 21, |found| found.number = 0));
-            assert!(is_seen(function, &[0; 5], 40, |found| found.number = 2));
-        }
-    }
-
-    /// One more than the text's length, any count on a refusal, and any that the record's function leaves.
-    #[test]
-    fn damaged_count() {
-        let more = |found: &mut Outcome| found.lent.count += 1;
-        let high = |found: &mut Outcome| found.lent.count ^= 1 << 31;
-        for function in [Record, Text, FullText] {
-            for (ins, room) in [(&[0x18, 0x80][..], 40), (&[0x18, 0x80], 21), (&[0xDD], 40)] {
-                assert!(is_seen(function, ins, room, more));
-                assert!(is_seen(function, ins, room, high));
-            }
-        }
-    }
-
-    /// In each byte of what is written, behind it, and anywhere on a refusal.
-    #[test]
-    fn damaged_byte() {
-        for function in [Record, Text, FullText] {
-            for place in 0..LOOKED_AT {
-                let damage = |found: &mut Outcome| found.lent.buffer[place] ^= 1;
-                assert!(is_seen(function, &[0xDD, 0x36, 0x80, 0x07], 52, damage));
-                assert!(is_seen(function, &[0xDD, 0x36, 0x80, 0x07], 21, damage));
-                assert!(is_seen(function, &[0xDD, 0x36], 52, damage));
-            }
-        }
-    }
-
-    /// Number, front and what is behind it of a call that is Done, and the refusal in a room that is one smaller.
-    fn fits(function: Function, ins: &[u8], bytes: &[u8], count: u32) {
-        let (call, _, outcome) = expected_of(function, ins, bytes.len());
-        let (front, behind) = outcome.lent.buffer.split_at(bytes.len());
-        assert_eq!((outcome.number, outcome.lent.count), (0, count));
+    /// A call that is Done in just the room for it, with these bytes and numbers; and its refusal in a room one smaller.
+    fn fits(asked: &Asked, bytes: &[u8], numbers: (u32, u32), refused_numbers: (u32, u32)) {
+        let before = filled(5);
+        let Outcome { number, lent } = outcome(asked, bytes.len());
+        let (front, behind) = lent.buffer.split_at(bytes.len());
+        assert_eq!((number, (lent.count, lent.passed)), (0, numbers));
         assert_eq!(front, bytes);
-        assert_eq!(behind, &call.before.buffer[bytes.len()..]);
-        let (_, _, refused) = expected_of(function, ins, bytes.len() - 1);
-        assert_eq!(refused.number, 4);
-        assert_eq!(refused.lent.buffer, call.before.buffer);
+        assert_eq!(behind, &before.buffer[bytes.len()..]);
+        let Outcome { number, lent } = outcome(asked, bytes.len() - 1);
+        assert_eq!((number, (lent.count, lent.passed)), (4, refused_numbers));
+        assert_eq!(lent.buffer, before.buffer);
     }
 
     #[test]
@@ -161,13 +156,53 @@ mod tests {
         let record = [
             2, 28, 3, 0x82, 0xFF, 0, 0, 0, 0, 0, 0, 0x18, 0x80, 0, 0, 4, 3, 5, 0, 0, 0, 3,
         ];
-        fits(Record, &[0x18, 0x80], &record, filled(5).count);
+        let Lent { count, passed, .. } = filled(5);
+        let asked = Asked::Bytes(Record, vec![0x18, 0x80]);
+        fits(&asked, &record, (count, passed), (count, passed));
     }
 
     #[test]
     fn texts_by_hand() {
-        fits(Text, &[0x00], b"NOP\t [4, 0, 0, 0, 0, 0]", 23);
+        let Lent { passed, .. } = filled(5);
+        let plain = Asked::Bytes(Text, vec![0x00]);
+        let text = b"NOP\t [4, 0, 0, 0, 0, 0]";
+        fits(&plain, text, (23, passed), (0, passed));
+        let full = Asked::Bytes(FullText, vec![0xDD, 0xCB, 0x80, 0xC7]);
         let longest = b"DD CB 80 C7 \t\tSET\t00, (IX-128), A [4, 4, 3, 5, 4, 3]";
-        fits(FullText, &[0xDD, 0xCB, 0x80, 0xC7], longest, 52);
+        fits(&full, longest, (52, passed), (0, passed));
+    }
+
+    #[test]
+    fn rows_by_hand() {
+        let longest = b"ABCD DD CB 80 C7 \t\tSET\t00, (IX-128), A [4, 4, 3, 5, 4, 3]\n";
+        fits(&front(&[0xDD, 0xCB, 0x80, 0xC7]), longest, (58, 4), (0, 0));
+        fits(&front(&[0xDD, 0x23]), b"ABCD DD \t\t?\n", (12, 1), (0, 0));
+    }
+
+    /// The image's size, then the address, then the room.
+    #[test]
+    fn refusals_of_rows_in_order() {
+        let cases: [(&[u8], u16, u16, u8); 4] = [
+            (&[], 0x1000, 0x0FFF, 5),
+            (&[0x00, 0x00], 0xFFFF, 0x0000, 5),
+            (&[0x00], 0xFFFF, 0x0000, 1),
+            (&[0x00], 0xFFFF, 0xFFFF, 4),
+        ];
+        for (image, origin, address, number) in cases {
+            let place = Place {
+                image,
+                origin,
+                address,
+            };
+            let found = outcome(&Asked::Row(place), 0);
+            let (count, passed) = (0, 0);
+            let buffer = filled(5).buffer;
+            let lent = Lent {
+                count,
+                passed,
+                buffer,
+            };
+            assert_eq!(found, Outcome { number, lent });
+        }
     }
 }

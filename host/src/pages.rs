@@ -26,6 +26,14 @@ pub fn row(prefix: &[u8], code: u8, beside: u8) -> Vec<u8> {
     [prefix, &behind].concat()
 }
 
+/// Where the code stands in a row.
+pub fn code_at(prefix: &[u8]) -> usize {
+    match prefix {
+        [_, 0xCB] => prefix.len() + 1,
+        _ => prefix.len(),
+    }
+}
+
 /// Every code of a page with every choice of edges around it, up to a length.
 pub fn edged(prefix: &[u8], length: usize) -> Vec<Vec<u8>> {
     let mut rows = vec![];

@@ -1,16 +1,25 @@
 //! The calls that are compared, in runs under a name.
 
-use crate::calls::Calls;
+use crate::calls::{About, Calls, Inputs};
 use crate::function::{Function, TEXT_MAX};
 use crate::mixed::Mixed;
 use crate::pages::{edged, ED_BEHIND, PAGES};
+use crate::row_runs::row_runs;
+use crate::tally::{Met, OF_BYTES, OF_ROWS};
 
 const RANDOM_INPUTS: usize = 1_000_000;
 
 /// The pages that have their codes in the first two bytes.
 const SHALLOW: usize = 5;
 
-type Run = Box<dyn Iterator<Item = Calls>>;
+pub type Run = Box<dyn Iterator<Item = Calls>>;
+
+/// The runs of one function, and what their answers must meet.
+pub struct Group {
+    pub function: &'static str,
+    pub to_meet: &'static [Met],
+    pub runs: Vec<(&'static str, Run)>,
+}
 
 /// For the record none, one too few, exactly enough, one more, and more; for a text every room up to two over the longest.
 fn every_room(function: Function) -> Vec<u8> {
@@ -29,13 +38,19 @@ fn enough_room(function: Function, k: usize) -> Vec<u8> {
     vec![rooms[k % rooms.len()]]
 }
 
+fn inputs(function: Function, free: u8, fixed: Vec<u8>) -> About {
+    About::Inputs(Inputs {
+        function,
+        free,
+        fixed,
+    })
+}
+
 /// Calls over these fixed bytes in every room.
 fn in_every_room(function: Function, free: u8, rows: Vec<Vec<u8>>) -> Run {
     Box::new(rows.into_iter().map(move |fixed| Calls {
-        function,
         rooms: every_room(function),
-        free,
-        fixed,
+        about: inputs(function, free, fixed),
     }))
 }
 
@@ -43,10 +58,8 @@ fn in_every_room(function: Function, free: u8, rows: Vec<Vec<u8>>) -> Run {
 fn in_enough_room(function: Function, free: u8, rows: Vec<Vec<u8>>) -> Run {
     let rows = rows.into_iter().enumerate();
     Box::new(rows.map(move |(k, fixed)| Calls {
-        function,
         rooms: enough_room(function, k),
-        free,
-        fixed,
+        about: inputs(function, free, fixed),
     }))
 }
 
@@ -122,15 +135,17 @@ fn text_runs(function: Function) -> Vec<(&'static str, Run)> {
     ]
 }
 
-/// All runs, each under its function and name.
-pub fn runs() -> impl Iterator<Item = (String, Run)> {
-    let functions = [
-        ("record", record_runs()),
-        ("text", text_runs(Function::Text)),
-        ("full text", text_runs(Function::FullText)),
-    ];
-    functions.into_iter().flat_map(|(function, runs)| {
-        runs.into_iter()
-            .map(move |(name, run)| (format!("{function}: {name}"), run))
-    })
+/// All runs, by function.
+pub fn groups() -> [Group; 4] {
+    let group = |function, to_meet, runs| Group {
+        function,
+        to_meet,
+        runs,
+    };
+    [
+        group("record", &OF_BYTES, record_runs()),
+        group("text", &OF_BYTES, text_runs(Function::Text)),
+        group("full text", &OF_BYTES, text_runs(Function::FullText)),
+        group("row", &OF_ROWS, row_runs()),
+    ]
 }

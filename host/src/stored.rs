@@ -1,14 +1,18 @@
 //! The stored requests and the original's answers to them, as the program `replay` reads and prints them.
 
+use crate::asked::Asked;
 use crate::function::{Function, TEXT_MAX};
 use crate::inputs;
-use crate::outcome::{expected, Call, Lent, LOOKED_AT};
+use crate::outcome::{expected, Call, Lent, Outcome, LOOKED_AT};
 use crate::record::RECORD_SIZE;
 use std::collections::HashSet;
 use std::fmt::Write;
 
 /// A request carries five bytes, those beyond its input zero.
 const REQUEST_BYTES: usize = 5;
+
+/// So much of the buffer is printed with a text.
+const PRINTED: usize = 56;
 
 /// A request and the line that answers it.
 #[derive(Clone)]
@@ -66,20 +70,23 @@ fn record_row(ins: &[u8]) -> Row {
     }
 }
 
-/// The line of a text: bytes, number, the text's length, and all of a buffer that was full of dots.
+/// The line of a text: bytes, number, the text's length, and a buffer that was full of dots.
 fn text_row(function: Function, ins: &[u8], room: usize) -> Row {
-    let buffer = [b'.'; LOOKED_AT];
+    let asked = Asked::Bytes(function, ins.to_vec());
     let call = Call {
-        function,
-        ins,
+        asked: &asked,
         room,
-        before: Lent { count: 0, buffer },
+        before: Lent {
+            count: 0,
+            passed: 0,
+            buffer: [b'.'; LOOKED_AT],
+        },
     };
-    let outcome = expected(&call, &function.said(ins));
-    let numbers = format!("{}{} {} ", shown(ins), outcome.number, outcome.lent.count);
+    let Outcome { number, lent } = expected(&call, &asked.said());
+    let numbers = format!("{}{number} {} ", shown(ins), lent.count);
     Row {
         request: request(function, room, ins),
-        line: [numbers.as_bytes(), &outcome.lent.buffer, b"\n"].concat(),
+        line: [numbers.as_bytes(), &lent.buffer[..PRINTED], b"\n"].concat(),
     }
 }
 

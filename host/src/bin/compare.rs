@@ -2,74 +2,72 @@
 
 use host::calls::Calls;
 use host::exported::Exported;
-use host::outcome::{difference, filled, Call};
-use host::runs::runs;
+use host::outcome::{expected, filled, Call};
+use host::runs::{groups, Group};
+use host::tally::Tally;
 use std::process::ExitCode;
 use std::{env, io};
 
-/// Differences past these are counted and not printed.
-const PRINTED: usize = 10;
-
-#[derive(Default)]
-struct Tally {
-    calls: usize,
-    differing: usize,
-}
-
-impl Tally {
-    /// Counts a call, and prints its difference if it has one.
-    fn add(&mut self, difference: Option<String>) {
-        self.calls += 1;
-        if let Some(text) = difference {
-            self.differing += 1;
-            if self.differing <= PRINTED {
-                println!("{text}");
-            }
-        }
-    }
-}
-
-/// Makes these calls. The original is asked once an input, whatever the rooms.
+/// Makes these calls. The original is asked once for all rooms.
 fn make(calls: &Calls, exported: &mut Exported, tally: &mut Tally) -> io::Result<()> {
     let mut fills = (0..).map(filled);
-    for ins in calls.inputs() {
-        let said = calls.function.said(&ins);
+    for asked in calls.asked() {
+        let said = asked.said();
         for (room, before) in calls.rooms.iter().zip(&mut fills) {
             let call = Call {
-                function: calls.function,
-                ins: &ins,
+                asked: &asked,
                 room: *room as usize,
                 before,
             };
             let found = exported.call(&call)?;
-            tally.add(difference(&call, &said, found));
+            if let Some(text) = tally.add(&call, expected(&call, &said), found) {
+                println!("{text}");
+            }
         }
     }
     Ok(())
 }
 
-/// Makes all calls and gives how many differ.
-fn compare(words: &[String]) -> io::Result<usize> {
-    let mut exported = Exported::start(words)?;
-    let mut tally = Tally::default();
-    for (name, run) in runs() {
+/// Makes all calls of one function, and prints what they came to.
+fn compare_group(group: Group, exported: &mut Exported) -> io::Result<Tally> {
+    let (function, mut tally) = (group.function, Tally::default());
+    for (name, run) in group.runs {
         let earlier = tally.calls;
         for calls in run {
-            make(&calls, &mut exported, &mut tally)?;
+            make(&calls, exported, &mut tally)?;
         }
-        println!("compare: {:>9} calls: {name}", tally.calls - earlier);
+        let calls = tally.calls - earlier;
+        println!("compare: {calls:>9} calls: {function}: {name}");
+    }
+    let (calls, counts) = (tally.calls, tally.counts());
+    println!("compare: {calls:>9} calls: {function} in all; {counts}");
+    Ok(tally)
+}
+
+/// Makes all calls. Whether none differs, and every answer that a function has was met.
+fn compare(words: &[String]) -> io::Result<bool> {
+    let mut exported = Exported::start(words)?;
+    let (mut calls, mut differing, mut complete) = (0, 0, true);
+    for group in groups() {
+        let (function, to_meet) = (group.function, group.to_meet);
+        let tally = compare_group(group, &mut exported)?;
+        calls += tally.calls;
+        differing += tally.differing;
+        for met in tally.missing(to_meet) {
+            println!("compare: no call of {function} came to {met:?}");
+            complete = false;
+        }
     }
     exported.finish()?;
-    let Tally { calls, differing } = tally;
     println!("compare: {calls:>9} calls in all, {differing} differ");
-    Ok(differing)
+    Ok(differing == 0 && complete)
 }
 
 fn main() -> ExitCode {
     let words: Vec<String> = env::args().skip(1).collect();
     match compare(&words) {
-        Ok(0) => ExitCode::SUCCESS,
-        Ok(_) => ExitCode::FAILURE,
+        Ok(true) => ExitCode::SUCCESS,
+        Ok(false) => ExitCode::FAILURE,
         Err(error) => {
             eprintln!("compare: {error}");
             ExitCode::FAILURE

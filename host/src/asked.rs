@@ -1,0 +1,50 @@
+//! What an exported function is asked, and what the original has it write.
+
+use crate::answer::Refusal;
+use crate::function::Function;
+use crate::listing::Place;
+use std::fmt;
+
+/// A function of a row's bytes with those, or `z80_row` with its place.
+pub enum Asked<'a> {
+    Bytes(Function, Vec<u8>),
+    Row(Place<'a>),
+}
+
+/// What is written where there is room for it: bytes to the lent buffer, and the bytes passed where the function says them.
+pub struct Written {
+    pub bytes: Vec<u8>,
+    pub passed: usize,
+}
+
+/// What is written, or the refusal that comes before the room is looked at.
+pub type Said = Result<Written, Refusal>;
+
+impl Asked<'_> {
+    pub fn said(&self) -> Said {
+        let (bytes, passed) = match self {
+            Asked::Bytes(function, ins) => (function.said(ins)?, 0),
+            Asked::Row(place) => {
+                let row = place.row()?;
+                (row.line, row.passed)
+            }
+        };
+        Ok(Written { bytes, passed })
+    }
+}
+
+impl fmt::Display for Asked<'_> {
+    fn fmt(&self, f: &mut fmt::Formatter) -> fmt::Result {
+        match self {
+            Asked::Bytes(function, ins) => write!(f, "{function:?} of {ins:02X?}"),
+            Asked::Row(place) => {
+                let Place { image, origin, .. } = place;
+                let at = place.address.wrapping_sub(*origin) as usize;
+                let rest = image.get(at..).unwrap_or_default();
+                let there = &rest[..rest.len().min(4)];
+                write!(f, "Row at {:04X}, {there:02X?}, ", place.address)?;
+                write!(f, "image of {} bytes from {origin:04X} on", image.len())
+            }
+        }
+    }
+}
