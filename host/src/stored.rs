@@ -1,104 +1,38 @@
-//! The stored requests and the original's answers to them, as the program `replay` reads and prints them.
+//! The stored runs of programs: what each reads, and what the original has it print.
 
-use crate::asked::Asked;
-use crate::function::{Function, TEXT_MAX};
-use crate::inputs;
-use crate::outcome::{expected, Call, Lent, Outcome, LOOKED_AT};
-use crate::record::RECORD_SIZE;
-use std::collections::HashSet;
-use std::fmt::Write;
+use crate::{list_rows, replay_rows};
 
-/// A request carries five bytes, those beyond its input zero.
-const REQUEST_BYTES: usize = 5;
-
-/// So much of the buffer is printed with a text.
-const PRINTED: usize = 56;
-
-/// A request and the line that answers it.
+/// A part of what a program reads, and what it prints for that.
 #[derive(Clone)]
 pub struct Row {
     pub request: Vec<u8>,
     pub line: Vec<u8>,
 }
 
-/// All rows, none twice.
-pub fn rows() -> Vec<Row> {
-    let mut rows = [records(), texts()].concat();
-    let mut seen = HashSet::new();
-    rows.retain(|row| seen.insert(row.request.clone()));
-    rows
+/// A program's run, in a folder of that name; in its files the rows follow one another without a gap.
+pub struct Stored {
+    pub folder: &'static str,
+    pub rows: Vec<Row>,
 }
 
-fn records() -> Vec<Row> {
-    let inputs = inputs::of_records();
-    inputs.iter().map(|ins| record_row(ins)).collect()
-}
-
-/// Both texts of each input in a room that holds every text; then, of some, in every room up to two over their own length.
-fn texts() -> Vec<Row> {
-    let mut rows = vec![];
-    for ins in inputs::of_texts() {
-        for function in [Function::Text, Function::FullText] {
-            rows.push(text_row(function, &ins, TEXT_MAX));
-        }
-    }
-    for ins in inputs::in_every_room() {
-        for function in [Function::Text, Function::FullText] {
-            let own = function.said(ins).map_or(0, |text| text.len());
-            rows.extend((0..=own + 2).map(|room| text_row(function, ins, room)));
-        }
-    }
-    rows
-}
-
-/// The line of a record: bytes, number, and where that is 0 the record's bytes.
-fn record_row(ins: &[u8]) -> Row {
-    let mut line = shown(ins);
-    match Function::Record.said(ins) {
-        Ok(record) => {
-            line.push('0');
-            for byte in record {
-                write!(line, " {byte:02X}").unwrap();
-            }
-        }
-        Err(refusal) => write!(line, "{}", refusal as u8).unwrap(),
-    }
-    line.push('\n');
-    Row {
-        request: request(Function::Record, RECORD_SIZE, ins),
-        line: line.into_bytes(),
-    }
-}
-
-/// The line of a text: bytes, number, the text's length, and a buffer that was full of dots.
-fn text_row(function: Function, ins: &[u8], room: usize) -> Row {
-    let asked = Asked::Bytes(function, ins.to_vec());
-    let call = Call {
-        asked: &asked,
-        room,
-        before: Lent {
-            count: 0,
-            passed: 0,
-            buffer: [b'.'; LOOKED_AT],
-        },
+/// All stored runs.
+pub fn stored() -> Vec<Stored> {
+    let replay = Stored {
+        folder: "replay",
+        rows: replay_rows::rows(),
     };
-    let Outcome { number, lent } = expected(&call, &asked.said());
-    let numbers = format!("{}{number} {} ", shown(ins), lent.count);
-    Row {
-        request: request(function, room, ins),
-        line: [numbers.as_bytes(), &lent.buffer[..PRINTED], b"\n"].concat(),
+    let lists = list_rows::images().map(|(folder, image)| Stored {
+        folder,
+        rows: list_rows::rows(&image),
+    });
+    [replay].into_iter().chain(lists).collect()
+}
+
+impl Stored {
+    /// The two files: name, and a part for each row.
+    pub fn files(&self) -> [(&'static str, Vec<&[u8]>); 2] {
+        let requests = self.rows.iter().map(|row| &row.request[..]);
+        let lines = self.rows.iter().map(|row| &row.line[..]);
+        [("stdin", requests.collect()), ("stdout", lines.collect())]
     }
-}
-
-/// The function's number, the room, the input's count and bytes.
-fn request(function: Function, room: usize, ins: &[u8]) -> Vec<u8> {
-    let mut bytes = [0; REQUEST_BYTES];
-    bytes[..ins.len()].copy_from_slice(ins);
-    [&[function as u8, room as u8, ins.len() as u8], &bytes[..]].concat()
-}
-
-/// What each line begins with.
-fn shown(ins: &[u8]) -> String {
-    let pairs: String = ins.iter().map(|byte| format!("{byte:02X} ")).collect();
-    pairs + "= "
 }

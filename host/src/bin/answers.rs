@@ -1,30 +1,23 @@
-//! Writes the original's stored requests and answers, or holds the stored files to the original.
+//! Writes the stored runs of the programs from what the original says, or holds the stored files to it.
 
-use host::stored::{rows, Row};
+use host::stored::{stored, Stored};
 use std::path::Path;
 use std::process::ExitCode;
 use std::{env, fs};
 
-/// The two files that a program is run on: name, and the parts that follow one another in it without a gap.
-fn files(rows: &[Row]) -> [(&'static str, Vec<&[u8]>); 2] {
-    [
-        ("stdin", rows.iter().map(|row| &row.request[..]).collect()),
-        ("stdout", rows.iter().map(|row| &row.line[..]).collect()),
-    ]
-}
-
-fn write(dir: &Path, rows: &[Row]) -> Result<(), String> {
-    for (name, parts) in files(rows) {
-        let path = dir.join(name);
-        let error = |error| format!("{}: {error}", path.display());
-        fs::write(&path, parts.concat()).map_err(error)?;
+fn write(crates: &Path, stored: &Stored) -> Result<(), String> {
+    let folder = crates.join(stored.folder);
+    for (name, parts) in stored.files() {
+        let path = folder.join(name);
+        let written = fs::create_dir_all(&folder).and_then(|()| fs::write(&path, parts.concat()));
+        written.map_err(|error| format!("{}: {error}", path.display()))?;
     }
     Ok(())
 }
 
 /// The first part, counted from 1, where a stored file and the given parts differ.
-fn first_differing(stored: &[u8], parts: &[&[u8]]) -> Option<usize> {
-    let mut rest = stored;
+fn first_differing(file: &[u8], parts: &[&[u8]]) -> Option<usize> {
+    let mut rest = file;
     for (n, part) in parts.iter().enumerate() {
         match rest.strip_prefix(*part) {
             Some(behind) => rest = behind,
@@ -35,13 +28,14 @@ fn first_differing(stored: &[u8], parts: &[&[u8]]) -> Option<usize> {
 }
 
 /// Compares both stored files with what the original says now.
-fn check(dir: &Path, rows: &[Row]) -> Result<(), String> {
-    for (name, parts) in files(rows) {
-        let path = dir.join(name);
+fn check(crates: &Path, stored: &Stored) -> Result<(), String> {
+    for (name, parts) in stored.files() {
+        let path = crates.join(stored.folder).join(name);
         let shown = path.display();
-        let stored = fs::read(&path).map_err(|error| format!("{shown}: {error}"))?;
-        if let Some(n) = first_differing(&stored, &parts) {
-            let line = rows.get(n - 1).map_or(&b"no such row"[..], |row| &row.line);
+        let file = fs::read(&path).map_err(|error| format!("{shown}: {error}"))?;
+        if let Some(n) = first_differing(&file, &parts) {
+            let row = stored.rows.get(n - 1);
+            let line = row.map_or(&b"no such row"[..], |row| &row.line);
             let original = String::from_utf8_lossy(line.trim_ascii_end());
             return Err(format!(
                 "{shown}: row {n} differs; the original: {original}"
@@ -54,19 +48,27 @@ fn check(dir: &Path, rows: &[Row]) -> Result<(), String> {
 fn main() -> ExitCode {
     let arguments: Vec<String> = env::args().skip(1).collect();
     let words: Vec<&str> = arguments.iter().map(String::as_str).collect();
-    let (step, done, dir): (fn(&Path, &[Row]) -> _, _, _) = match words[..] {
-        ["write", dir] => (write, "written", dir),
-        ["check", dir] => (check, "checked", dir),
+    let (step, done, crates): (fn(&Path, &Stored) -> _, _, _) = match words[..] {
+        ["write", crates] => (write, "written", crates),
+        ["check", crates] => (check, "checked", crates),
         _ => {
-            eprintln!("usage: answers write DIR | answers check DIR");
+            eprintln!("usage: answers write CRATES_DIR | answers check CRATES_DIR");
             return ExitCode::from(2);
         }
     };
-    let rows = rows();
-    if let Err(error) = step(Path::new(dir), &rows) {
-        eprintln!("answers: {error}");
-        return ExitCode::FAILURE;
+    let mut code = ExitCode::SUCCESS;
+    for stored in stored() {
+        match step(Path::new(crates), &stored) {
+            Ok(()) => println!(
+                "answers: {}: {} rows {done}",
+                stored.folder,
+                stored.rows.len()
+            ),
+            Err(error) => {
+                eprintln!("answers: {error}");
+                code = ExitCode::FAILURE;
+            }
+        }
     }
-    println!("answers: {} rows {done}", rows.len());
-    ExitCode::SUCCESS
+    code
 }

@@ -1,0 +1,98 @@
+//! The stored requests of the program `replay`, and the original's answers to them.
+
+use crate::asked::Asked;
+use crate::function::{Function, TEXT_MAX};
+use crate::inputs;
+use crate::outcome::{expected, Call, Lent, Outcome, LOOKED_AT};
+use crate::record::RECORD_SIZE;
+use crate::stored::Row;
+use std::collections::HashSet;
+use std::fmt::Write;
+
+/// A request carries five bytes, those beyond its input zero.
+const REQUEST_BYTES: usize = 5;
+
+/// So much of the buffer is printed with a text.
+const PRINTED: usize = 56;
+
+/// All rows, none twice.
+pub fn rows() -> Vec<Row> {
+    let mut rows = [records(), texts()].concat();
+    let mut seen = HashSet::new();
+    rows.retain(|row| seen.insert(row.request.clone()));
+    rows
+}
+
+fn records() -> Vec<Row> {
+    let inputs = inputs::of_records();
+    inputs.iter().map(|ins| record_row(ins)).collect()
+}
+
+/// Both texts of each input in a room that holds every text; then, of some, in every room up to two over their own length.
+fn texts() -> Vec<Row> {
+    let mut rows = vec![];
+    for ins in inputs::of_texts() {
+        for function in [Function::Text, Function::FullText] {
+            rows.push(text_row(function, &ins, TEXT_MAX));
+        }
+    }
+    for ins in inputs::in_every_room() {
+        for function in [Function::Text, Function::FullText] {
+            let own = function.said(ins).map_or(0, |text| text.len());
+            rows.extend((0..=own + 2).map(|room| text_row(function, ins, room)));
+        }
+    }
+    rows
+}
+
+/// The line of a record: bytes, number, and where that is 0 the record's bytes.
+fn record_row(ins: &[u8]) -> Row {
+    let mut line = shown(ins);
+    match Function::Record.said(ins) {
+        Ok(record) => {
+            line.push('0');
+            for byte in record {
+                write!(line, " {byte:02X}").unwrap();
+            }
+        }
+        Err(refusal) => write!(line, "{}", refusal as u8).unwrap(),
+    }
+    line.push('\n');
+    Row {
+        request: request(Function::Record, RECORD_SIZE, ins),
+        line: line.into_bytes(),
+    }
+}
+
+/// The line of a text: bytes, number, the text's length, and a buffer that was full of dots.
+fn text_row(function: Function, ins: &[u8], room: usize) -> Row {
+    let asked = Asked::Bytes(function, ins.to_vec());
+    let call = Call {
+        asked: &asked,
+        room,
+        before: Lent {
+            count: 0,
+            passed: 0,
+            buffer: [b'.'; LOOKED_AT],
+        },
+    };
+    let Outcome { number, lent } = expected(&call, &asked.said());
+    let numbers = format!("{}{number} {} ", shown(ins), lent.count);
+    Row {
+        request: request(function, room, ins),
+        line: [numbers.as_bytes(), &lent.buffer[..PRINTED], b"\n"].concat(),
+    }
+}
+
+/// The function's number, the room, the input's count and bytes.
+fn request(function: Function, room: usize, ins: &[u8]) -> Vec<u8> {
+    let mut bytes = [0; REQUEST_BYTES];
+    bytes[..ins.len()].copy_from_slice(ins);
+    [&[function as u8, room as u8, ins.len() as u8], &bytes[..]].concat()
+}
+
+/// What each line begins with.
+fn shown(ins: &[u8]) -> String {
+    let pairs: String = ins.iter().map(|byte| format!("{byte:02X} ")).collect();
+    pairs + "= "
+}
