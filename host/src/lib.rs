@@ -21,5 +21,6 @@ pub mod record;
 pub mod replay_rows;
 pub mod row_runs;
 pub mod runs;
+pub mod sample;
 pub mod stored;
 pub mod tally;
