@@ -1,3 +1,4 @@
 // What a host calls: functions on numbers and byte slices, each slice a pointer and a length.
 pub mod record;
+pub mod rows;
 pub mod texts;
