@@ -28,7 +28,7 @@ listing-next a (b ∷ s) some =
     ap (λ (rs : List Row). rowAt a (b ∷ s) ∷ rs)
     (behind (p - 1) (suc a) s ∙ ap (λ (k : ℕ). rowsBehind 0 k (drop (p - 1) s)) onward ∙ ap (λ (n : ℕ). rowsBehind 0 (a + p) (drop n (b ∷ s))) (sym (again (b ∷ s))))
 
-every-map : {p q : Row → Type 0} → ((r : Row) → p r → q r) → (rs : List Row) → Every p rs → Every q rs
+pub every-map : {p q : Row → Type 0} → ((r : Row) → p r → q r) → (rs : List Row) → Every p rs → Every q rs
 every-map f [] held = tt
 every-map f (r ∷ rs) held = (f r (held .0), every-map f rs (held .1))
 

@@ -1,17 +1,24 @@
--- Pages: the rows that are written to some room, and what is left for the next. Assumes nothing.
+-- Pages: the rows that are written to some room, what is left for the next, and how much is answered. Assumes nothing.
 use mathlib.Core.Path.{_≡_, refl, sym, ap, subst, _∙_}
 use mathlib.Core.Bool.{Bool, true, false}
 use mathlib.Core.List.{List, [], _∷_, _++_, append-assoc}
 use Prim.Native.Nat.{ℕ, zero, suc, _+_, _-_, _<_, _≤_}
 use native.Mathlib.Omega.{arith}
-use lib.Dec.{leb}
+use lib.Dec.{ltb, leb}
 use lib.ListN.{length, take, drop, length-take, length-drop, length-append}
 use lib.Seq.{drop-drop}
 use borrow.Author.Tests.{leb-true, leb-false, le-leb, lt-leb}
+use Rattle.table.specs.Consequences.{AllBytes}
+use Rattle.table.proofs.Pages.{chosen}
+use Rattle.wording.proofs.Longest.{drop-bytes}
+use Rattle.listing.specs.declared.Listed.{Listed}
 use Rattle.listing.specs.Rows.{window, lineOf, passedOf, Row, rowAt, listing, printed, joined}
-use Rattle.listing.specs.Page.{page}
+use Rattle.listing.specs.Answers.{countOf, passedOver, wrongSize, outside}
+use Rattle.listing.specs.Page.{page, rowsAnswer}
+use Rattle.listing.specs.Consequences.{Every}
 use Rattle.listing.proofs.Passed.{passed-least, passed-within}
-use Rattle.listing.proofs.Listing.{listing-next}
+use Rattle.listing.proofs.Listing.{listing-next, every-map, each-answered, bytes-joined}
+use Rattle.listing.proofs.Longest.{line-most, window-bytes}
 
 -- where there is room for the longest line the first row is written, and the others to what is left
 pub page-next : (room a : ℕ) (s : List ℕ) → 1 ≤ length s → 58 ≤ room → page room (listing a s) ≡ rowAt a s ∷ page (room - length (lineOf a (window s))) (listing (a + passedOf (window s)) (drop (passedOf (window s)) s))
@@ -68,3 +75,45 @@ splits (suc n) room a s enough = splits-at room a s (λ room a l fewer. splits n
 -- what is printed page by page is the whole listing
 pub page-printed : (room a : ℕ) (s : List ℕ) → Splits a s (page room (listing a s))
 page-printed room a s = splits (suc (length s)) room a s (omega arith)
+
+-- each line of a listing has at most 58 bytes
+lines-most : (a : ℕ) (s : List ℕ) → AllBytes s → Every (λ (r : Row). length (r .line) ≤ 58) (listing a s)
+lines-most a s bytes =
+    every-map
+    (λ r x. subst (λ (q : Row). length (q .line) ≤ 58) (sym (x .answer)) (line-most (a + x .place) (window (drop (x .place) s)) (window-bytes (x .place) s bytes)))
+    (listing a s) (each-answered a s)
+
+-- so a page's lines fit
+fits-by : (t : Bool) (room : ℕ) (r : Row) (rs : List Row) → leb 58 room ≡ t → length (r .line) ≤ 58 → length (printed (page (room - length (r .line)) rs)) ≤ room - length (r .line) → length (printed (page room (r ∷ rs))) ≤ room
+fits-by true room r rs t most rest = rw t (omega (arith, leb-true 58 room t, most, rest, length-append (r .line) (printed (page (room - length (r .line)) rs))))
+fits-by false room r rs t most rest = rw t (omega arith)
+
+page-fits : (rs : List Row) (room : ℕ) → Every (λ (r : Row). length (r .line) ≤ 58) rs → length (printed (page room rs)) ≤ room
+page-fits [] room most = omega arith
+page-fits (r ∷ rs) room most = fits-by (leb 58 room) room r rs refl (most .0) (page-fits rs (room - length (r .line)) (most .1))
+
+-- and it passes no more than there is
+passes-by : (t : Bool) (room : ℕ) (r : Row) (rs : List Row) → leb 58 room ≡ t → length (joined (page (room - length (r .line)) rs)) ≤ length (joined rs) → length (joined (page room (r ∷ rs))) ≤ length (joined (r ∷ rs))
+passes-by true room r rs t rest = rw t (omega (arith, rest, length-append (r .bytes) (joined rs), length-append (r .bytes) (joined (page (room - length (r .line)) rs))))
+passes-by false room r rs t rest = rw t (omega arith)
+
+page-passes : (rs : List Row) (room : ℕ) → length (joined (page room rs)) ≤ length (joined rs)
+page-passes [] room = omega arith
+page-passes (r ∷ rs) room = passes-by (leb 58 room) room r rs refl (page-passes rs (room - length (r .line)))
+
+-- what is answered: a count that fits, and no more bytes than the image has from the address on
+module _ (image : List ℕ) (origin address : ℕ) (out : List ℕ) where
+  pub rows-count : AllBytes image → countOf (rowsAnswer image origin address out) ≤ length out
+  rows-count bytes =
+      let s = drop (address - origin) image in
+      chosen (λ (x : Listed). countOf x ≤ length out) (wrongSize image origin) _ _ (omega arith)
+      (chosen (λ (x : Listed). countOf x ≤ length out) (outside image origin address) _ _ (omega arith)
+      (chosen (λ (x : Listed). countOf x ≤ length out) (ltb (length out) 58) _ _ (omega arith) (page-fits (listing address s) (length out) (lines-most address s (drop-bytes (address - origin) image bytes)))))
+
+  pub rows-passed : passedOver (rowsAnswer image origin address out) ≤ length image - (address - origin)
+  rows-passed =
+      let s = drop (address - origin) image in
+      let most : length (joined (page (length out) (listing address s))) ≤ length image - (address - origin) = omega (arith, page-passes (listing address s) (length out), ap length (bytes-joined address s), length-drop (address - origin) image) in
+      chosen (λ (x : Listed). passedOver x ≤ length image - (address - origin)) (wrongSize image origin) _ _ (omega arith)
+      (chosen (λ (x : Listed). passedOver x ≤ length image - (address - origin)) (outside image origin address) _ _ (omega arith)
+      (chosen (λ (x : Listed). passedOver x ≤ length image - (address - origin)) (ltb (length out) 58) _ _ (omega arith) most))

@@ -1,0 +1,30 @@
+-- `print` meets its contract: what is left of the image falls. Assumes nothing.
+use mathlib.Core.Path.{_≡_}
+use Prim.Native.Nat.{ℕ, _+_, _-_, _≤_}
+use native.Mathlib.Omega.{arith}
+use lib.ListN.{length}
+use borrow.Author.Needs.{needs}
+use Rattle.lister.proofs.print.Statement.{statement}
+use Rattle.lister.proofs.print.Tie as tie
+
+abbrev Inv-loop : tie.InvT-loop
+Inv-loop image page₀ place₀ page place = (65536 ≡ length page) × (place ≤ length image)
+
+abbrev μ-loop : tie.MeasureT-loop
+μ-loop image page₀ place₀ page place = length image - place
+
+pub print-spec : {M : Type 1} → statement M
+print-spec =
+    tie.close
+    (tie.spec
+    Inv-loop
+    μ-loop
+    (λ c. search needs)
+    (λ c. search needs)
+    (λ c. search needs)
+    (λ c. search needs)
+    (λ c. search needs)
+    (λ c. search needs)
+    (λ c. search needs)
+    (λ c. search needs)
+    (λ c. search needs))
