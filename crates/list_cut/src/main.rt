@@ -1,0 +1,4 @@
+// The listing program, run on an image that ends inside prefixed rows.
+fn main() {
+    lister::run();
+}

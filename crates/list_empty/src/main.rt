@@ -1,0 +1,4 @@
+// The listing program, run on an empty image: it prints nothing.
+fn main() {
+    lister::run();
+}
