@@ -1,6 +1,6 @@
 -- How many bytes a row passes. Assumes nothing.
 use mathlib.Core.Path.{_≡_, refl}
-use Prim.Native.Nat.{ℕ, _≤_}
+use Prim.Native.Nat.{ℕ, _≤_, min}
 use native.Mathlib.Omega.{arith}
 use mathlib.Core.List.{List}
 use lib.ListN.{length, length-take}
@@ -37,6 +37,10 @@ passed-least w = of w .least
 pub passed-most : (w : List ℕ) → passedOf w ≤ 4
 passed-most w = of w .most
 
+-- up to four bytes are looked at
+pub window-size : (s : List ℕ) → length (window s) ≡ min 4 (length s)
+window-size s = length-take 4 s
+
 -- no row passes more than there is
 pub passed-within : (s : List ℕ) → 1 ≤ length s → passedOf (window s) ≤ length s
-passed-within s some = omega (arith, of (window s) .looked (omega (arith, length-take 4 s)), length-take 4 s)
+passed-within s some = omega (arith, of (window s) .looked (omega (arith, window-size s)), window-size s)

@@ -1,22 +1,20 @@
 -- What listing a row answers along a listing. Assumes nothing.
-use mathlib.Core.Path.{_≡_, refl, sym, ap, subst, _∙_}
+use mathlib.Core.Path.{_≡_, refl, sym, ap, subst}
 use mathlib.Core.Logic.{_⊎_, inl, inr}
-use mathlib.Core.Bool.{false, cond}
-use mathlib.Core.List.{List, _∷_}
+use mathlib.Core.Bool.{false}
+use mathlib.Core.List.{List}
 use Prim.Native.Nat.{ℕ, _+_, _-_, _<_, _≤_}
 use native.Mathlib.Omega.{arith}
-use lib.Dec.{ltb, leb}
 use lib.ListN.{length, take, drop, length-take, length-drop}
 use borrow.Author.Tests.{le-ltb, lt-leb}
 use Rattle.table.specs.declared.Answer.{Answer}
 use Rattle.table.specs.Decode.{decodeOf}
 use Rattle.table.proofs.Answers.{nothing-exactly, long-exactly}
 use Rattle.wording.specs.Answers.{fitted}
-use Rattle.listing.specs.declared.Listed.{Listed}
 use Rattle.listing.specs.Rows.{window, passedOf, Row, rowAt}
-use Rattle.listing.specs.Answers.{wrongSize, outside, windowAt, listed, givenBy, rowAnswer}
+use Rattle.listing.specs.Answers.{wrongSize, outside, windowAt, listed, rowAnswer}
 use Rattle.listing.specs.Consequences.{Answered}
-use Rattle.listing.proofs.Passed.{passed-within}
+use Rattle.listing.proofs.Passed.{window-size, passed-within}
 
 -- a row's window is Done or Short: it is not empty, and has no more than four bytes
 told : (a : Answer) → (a ≡ Answer.Nothing → ⊥) → (a ≡ Answer.Long → ⊥) → (a ≡ Answer.Done) ⊎ (a ≡ Answer.Short)
@@ -27,7 +25,7 @@ told Answer.Long nothing long = absurd (long refl)
 
 pub done-or-short : (s : List ℕ) → 1 ≤ length s → (decodeOf (window s) .answer ≡ Answer.Done) ⊎ (decodeOf (window s) .answer ≡ Answer.Short)
 done-or-short s some =
-    let n = length-take 4 s in
+    let n = window-size s in
     told (decodeOf (window s) .answer) (λ e. omega (arith, nothing-exactly (window s) .0 e, n)) (λ e. omega (arith, long-exactly (window s) .0 e, n))
 
 module _ (origin : ℕ) (image : List ℕ) (k : ℕ) (inside : k < length image) where

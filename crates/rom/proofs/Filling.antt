@@ -1,5 +1,5 @@
 -- Rows written one behind the other: what holds before each, and when no more are. Assumes nothing.
-use mathlib.Core.Path.{_≡_, refl, sym, ap, _∙_}
+use mathlib.Core.Path.{_≡_, sym, ap, _∙_}
 use mathlib.Core.Logic.{_⊎_, inl, inr}
 use mathlib.Core.List.{List, [], _∷_, _++_, append-assoc, append-nil}
 use Prim.Native.Nat.{ℕ, _+_, _-_, _<_, _≤_}
@@ -11,7 +11,7 @@ use Rattle.writer.specs.Wrote.{Wrote}
 use Rattle.writer.proofs.Laws.{_▸_, none, counted, whole}
 use Rattle.listing.specs.Rows.{window, lineOf, passedOf, Row, rowAt, listing, printed, joined}
 use Rattle.listing.specs.Page.{page}
-use Rattle.listing.proofs.Passed.{passed-least, passed-within}
+use Rattle.listing.proofs.Passed.{passed-within}
 use Rattle.listing.proofs.Longest.{line-most, window-bytes}
 use Rattle.listing.proofs.Page.{page-next, page-full, page-none, passed-bytes}
 

@@ -1,7 +1,6 @@
 -- `print_page` meets its contract: the answer has no more than the page holds and the image has. Assumes nothing.
 use native.Mathlib.Omega.{arith}
 use denote.Ref.{now}
-use lib.ListN.{length}
 use Rattle.listing.proofs.Page.{rows-count, rows-passed}
 use borrow.Author.Needs.{needs}
 use Rattle.lister.proofs.print_page.Statement.{statement}

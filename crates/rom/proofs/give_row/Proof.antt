@@ -7,6 +7,7 @@ use lib.ListN.{length, take, drop}
 use denote.Ref.{now}
 use Rattle.writer.proofs.Laws.{front, counted, size}
 use Rattle.listing.specs.Rows.{window, lineOf}
+use Rattle.listing.specs.Answers.{listed}
 use Rattle.listing.proofs.Longest.{line-most, window-bytes}
 use borrow.Author.Needs.{needs}
 use Rattle.rom.proofs.give_row.Statement.{statement}
@@ -33,7 +34,8 @@ part-give-end c = omega (arith, counted (c .before .before .put-row .ensures .0)
 returns : tie.Need-returns
 returns c =
     let given = rw (part (c .before .before .before .before .before .before .before .before)) at (c .before .before .before .give .ensures) in
-    (rw (given .0, c .before .before .before .before .before .before .before .before .put-row .ensures .1) at (c .listed .ensures), given .1)
+    let answer : c .listed .result ≡ listed (c .before .before .before .give .result) (c .before .before .before .before .before .before .before .before .put-row .result .passed) = c .listed .ensures in
+    (rw (given .0, c .before .before .before .before .before .before .before .before .put-row .ensures .1) at answer, given .1)
 
 pub give-row-spec : {M : Type 1} → statement M
 give-row-spec =

@@ -1,8 +1,8 @@
 -- `put_row` meets its contract: the bytes lent to the decoder are the window. Assumes nothing.
 use mathlib.Core.Path.{_≡_, refl, ap, _∙_}
-use Prim.Native.Nat.{ℕ, _+_, _-_}
+use Prim.Native.Nat.{_+_, _-_}
 use native.Mathlib.Omega.{arith}
-use lib.ListN.{length, take, drop, getD, length-drop}
+use lib.ListN.{take, drop, getD, length-drop}
 use denote.Ref.{now}
 use Rattle.table.specs.Decode.{decodeOf}
 use Rattle.writer.proofs.Laws.{told}

@@ -1,9 +1,7 @@
 -- `put_rows` meets its contract: what holds before each row is `Filling`. Assumes nothing.
-use mathlib.Core.Path.{_≡_, refl}
 use mathlib.Core.Logic.{_⊎_, inl, inr}
-use Prim.Native.Nat.{ℕ, _-_, _<_, _≤_}
+use Prim.Native.Nat.{_-_, _<_, _≤_}
 use native.Mathlib.Omega.{arith}
-use lib.Dec.{leb}
 use lib.ListN.{length, drop}
 use borrow.Author.Tests.{leb-true, leb-false}
 use denote.Ref.{now}
@@ -11,7 +9,6 @@ use Rattle.writer.proofs.Laws.{counted, size}
 use Rattle.listing.specs.Rows.{window}
 use Rattle.listing.proofs.Passed.{passed-least, passed-most}
 use Rattle.rom.proofs.Filling.{Filling, begins, goes-on, ends-count, ends-passed, ends-bytes}
-use borrow.Author.Needs.{needs}
 use Rattle.rom.proofs.put_rows.Statement.{statement}
 use Rattle.rom.proofs.put_rows.Tie as tie
 

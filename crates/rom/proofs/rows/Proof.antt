@@ -1,12 +1,11 @@
 -- `rows` meets its contract: the refusals in their order, then the rows. Assumes nothing.
 use mathlib.Core.Path.{_≡_, refl, sym, _∙_}
-use Prim.Native.Nat.{ℕ, _+_, _-_, _<_, _≤_}
+use Prim.Native.Nat.{_+_, _-_, _<_, _≤_}
 use native.Mathlib.Omega.{arith}
 use lib.ListN.{length, drop}
 use borrow.Author.Tests.{lt-ltb, le-ltb}
 use denote.Ref.{now}
 use Rattle.listing.specs.Rows.{listing}
-use Rattle.listing.specs.Page.{page}
 use Rattle.listing.proofs.Page.{page-full}
 use Rattle.rom.proofs.Inside.{right-size, inside}
 use borrow.Author.Needs.{needs}
