@@ -13,9 +13,13 @@ abbrev pub page : ℕ → List Row → List Row
 page room [] = []
 page room (r ∷ rs) = cond (leb 58 room) (r ∷ page (room - length (r .line)) rs) []
 
+-- of the rows of s, whose first byte stands at address a, to lent bytes
+abbrev pub pageOf : ℕ → List ℕ → List ℕ → List Row
+pageOf a s out = page (length out) (listing a s)
+
 -- of the rows from an address on
 abbrev pub pageAt : List ℕ → ℕ → ℕ → List ℕ → List Row
-pageAt image origin address out = page (length out) (listing address (drop (address - origin) image))
+pageAt image origin address out = pageOf address (drop (address - origin) image) out
 
 -- the answer: 5, 1 and 4 in this order, 4 where there is no room for the longest line; else the bytes of the lines and of the image
 abbrev pub rowsAnswer : List ℕ → ℕ → ℕ → List ℕ → Listed

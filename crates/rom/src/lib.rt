@@ -6,9 +6,9 @@ ghost use mathlib.Core.List.{_++_};
 ghost use Prim.Native.Nat.{_+_, _-_, _<_, _≤_, min};
 ghost use lib.ListN.{length, drop};
 ghost use Rattle.writer.specs.Wrote.{Wrote};
-ghost use Rattle.listing.specs.Rows.{window, lineOf, passedOf, listing, printed, joined};
+ghost use Rattle.listing.specs.Rows.{window, lineOf, passedOf, printed, joined};
 ghost use Rattle.listing.specs.Answers.{listed as listedOf, givenBy, leftBy, rowAnswer, rowBytes};
-ghost use Rattle.listing.specs.Page.{page, rowsAnswer, rowsBytes};
+ghost use Rattle.listing.specs.Page.{pageOf, rowsAnswer, rowsBytes};
 use disas::disas;
 use line::LINE_MAX;
 use line::passed;
@@ -97,9 +97,9 @@ pub fn row(image: &[u8], origin: u16, address: u16, out: &mut [u8]) -> Listed
 fn put_rows(image: &[u8], origin: u16, start: usize, out: &mut [u8]) -> Put
     requires { ⌜ start ≤ length (now image) ⌝ }
     requires { ⌜ origin + length (now image) ≤ 65536 ⌝ }
-    ensures count { λ r. ⌜ r .next ≡ length (printed (page (length (now (out .entry))) (listing (origin + start) (drop start (now (image .entry)))))) ⌝ }
-    ensures passed { λ r. ⌜ r .passed ≡ length (joined (page (length (now (out .entry))) (listing (origin + start) (drop start (now (image .entry)))))) ⌝ }
-    ensures bytes { λ _. ⌜ now (out .exit) ≡ printed (page (length (now (out .entry))) (listing (origin + start) (drop start (now (image .entry))))) ++ drop (length (printed (page (length (now (out .entry))) (listing (origin + start) (drop start (now (image .entry))))))) (now (out .entry)) ⌝ }
+    ensures count { λ r. ⌜ r .next ≡ length (printed (pageOf (origin + start) (drop start (now (image .entry))) (now (out .entry)))) ⌝ }
+    ensures passed { λ r. ⌜ r .passed ≡ length (joined (pageOf (origin + start) (drop start (now (image .entry))) (now (out .entry)))) ⌝ }
+    ensures bytes { λ _. ⌜ now (out .exit) ≡ printed (pageOf (origin + start) (drop start (now (image .entry))) (now (out .entry))) ++ drop (length (printed (pageOf (origin + start) (drop start (now (image .entry))) (now (out .entry))))) (now (out .entry)) ⌝ }
 {
     let mut next = 0;
     let mut place = start;
