@@ -1,6 +1,6 @@
 -- Places of an image: the tests of its size and of an address, and the bytes looked at. Assumes nothing.
 use mathlib.Core.Path.{_≡_, refl, sym, ap}
-use mathlib.Core.Bool.{Bool, true, false, _||_, true≢false}
+use mathlib.Core.Bool.{Bool, true, false}
 use mathlib.Core.List.{List, [], _∷_}
 use Prim.Native.Nat.{ℕ, zero, suc, _+_, _-_, _<_, _≤_, min}
 use native.Mathlib.Omega.{arith}
@@ -8,6 +8,7 @@ use lib.Dec.{eqb, ltb, leb}
 use lib.ListN.{length, take, drop, getD}
 use borrow.Author.Tests.{ltb-true, ltb-false, leb-true, leb-false, lt-ltb, le-ltb, le-leb, lt-leb}
 use Rattle.table.specs.Consequences.{first}
+use Rattle.table.proofs.Answers.{neither}
 use Rattle.listing.specs.Rows.{window}
 use Rattle.listing.specs.Answers.{wrongSize, outside}
 
@@ -26,19 +27,20 @@ past-told a n e h =
     alike (leb n (e - a)) (leb (a + n) e) (λ t. le-leb (a + n) e (omega (arith, leb-true n (e - a) t)))
     (λ f. lt-leb (a + n) e (omega (arith, leb-false n (e - a) f)))
 
-neither : (x y : Bool) → (x || y) ≡ false → (x ≡ false) × (y ≡ false)
-neither true y e = absurd (true≢false e)
-neither false y e = (refl, e)
+-- what holds of an address past the tests of size and place
+pub record Within (image : List ℕ) (origin address : ℕ) : Type 0 where
+  pub size : origin + length image ≤ 65536
+  pub place : address - origin < length image
+  pub low : origin ≤ address
+  pub again : origin + (address - origin) ≡ address
 
--- an image whose size is right
-pub right-size : (image : List ℕ) (origin : ℕ) → wrongSize image origin ≡ false → origin + length image ≤ 65536
-right-size image origin e = ltb-false 65536 (origin + length image) (neither (eqb (length image) 0) (ltb 65536 (origin + length image)) e .1)
-
--- an address that is not outside
-pub inside : (image : List ℕ) (origin address : ℕ) → outside image origin address ≡ false → (origin ≤ address) × (address < origin + length image)
-inside image origin address e =
-    let n = neither (ltb address origin) (leb (origin + length image) address) e in
-    (ltb-false address origin (n .0), leb-false (origin + length image) address (n .1))
+pub within : (image : List ℕ) (origin address : ℕ) → wrongSize image origin ≡ false → outside image origin address ≡ false → Within image origin address
+within image origin address right inside =
+    let over = neither (eqb (length image) 0) (ltb 65536 (origin + length image)) right .1 in
+    let out = neither (ltb address origin) (leb (origin + length image) address) inside in
+    let low = ltb-false address origin (out .0) in
+    let high = leb-false (origin + length image) address (out .1) in
+    record { size = ltb-false 65536 (origin + length image) over; place = omega arith; low = low; again = omega arith }
 
 -- the first n bytes, or all where there are fewer
 pub first-of : (n m : ℕ) (s : List ℕ) → m ≡ min n (length s) → take m s ≡ take n s

@@ -42,7 +42,7 @@ loop-again : tie.Need-loop-again Inv-loop μ-loop
 loop-again c =
     let s = c .before .before .before .before .before .before .before .before .before .before in
     let l = c .before .before .before .before .before .before .before .loop in
-    let room = leb-true 58 (length (l .out) - l .next) (c .before .before .before .before .before .if1 .taken) in
+    let room = leb-true _ (length (l .out) - l .next) (c .before .before .before .before .before .if1 .taken) in
     rw (c .before .before .before .put-row .ensures .1) (goes-on (now (s .args .image)) (s .args .origin) (s .args .start) (now (s .args .out)) (λ j. c .before .before .before .before .before .before .before .before .before .shared-slice-known .given j .fits) (l .inv) (c .before .before .before .before .before .before .loop-test .taken) (omega (arith, room, size (l .inv .wrote))) (c .before .before .before .put-row .ensures .0))
 
 sub-t15 : tie.Need-sub-t15 Inv-loop μ-loop
@@ -56,7 +56,7 @@ returns c =
     let s = c .before .before .before .before .args in
     let l = c .before .loop in
     let over : (length (now (s .image)) ≤ l .place) ⊎ (length (now (s .out)) - l .next < 58) =
-    elim (c .loop-test .came) [ inl x ↦ inr (omega (arith, leb-false 58 (length (l .out) - l .next) (x .1 .left), size (l .inv .wrote))) | inr x ↦ inl (x .left) ]
+    elim (c .loop-test .came) [ inl x ↦ inr (omega (arith, leb-false _ (length (l .out) - l .next) (x .1 .left), size (l .inv .wrote))) | inr x ↦ inl (x .left) ]
     in
     (ends-count (now (s .image)) (s .origin) (s .start) (now (s .out)) (l .inv) over, (ends-passed (now (s .image)) (s .origin) (s .start) (now (s .out)) (l .inv) over, ends-bytes (now (s .image)) (s .origin) (s .start) (now (s .out)) (l .inv) over))
 

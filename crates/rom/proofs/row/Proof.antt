@@ -1,10 +1,7 @@
 -- `row` meets its contract: the refusals in their order, then the row. Assumes nothing.
-use mathlib.Core.Path.{_≡_, refl, sym, _∙_}
-use Prim.Native.Nat.{_+_, _-_, _<_, _≤_}
-use native.Mathlib.Omega.{arith}
-use lib.ListN.{length}
+use mathlib.Core.Path.{refl, sym, _∙_}
 use denote.Ref.{now}
-use Rattle.rom.proofs.Inside.{right-size, inside}
+use Rattle.rom.proofs.Inside.{Within, within}
 use borrow.Author.Needs.{needs}
 use Rattle.rom.proofs.row.Statement.{statement}
 use Rattle.rom.proofs.row.Tie as tie
@@ -16,24 +13,18 @@ returns-2 : tie.Need-returns-2
 returns-2 c = rw (sym (c .before .before .before .is-wrong-size .ensures) ∙ c .before .before .if1 .left, sym (c .before .is-outside .ensures) ∙ c .if2 .taken) (refl, refl)
 
 -- past the tests the image's size is right and the address inside
-sized : (k : tie.Else1) → let s = k .before .before .before .before .args in s .origin + length (now (s .image)) ≤ 65536
-sized k = right-size (now (k .before .before .before .before .args .image)) (k .before .before .before .before .args .origin) (sym (k .before .is-wrong-size .ensures) ∙ k .if1 .left)
-
-at : (k : tie.Else2) → let s = k .before .before .before .before .before .before .args in (s .origin ≤ s .address) × (s .address < s .origin + length (now (s .image)))
-at k = let s = k .before .before .before .before .before .before .args in inside (now (s .image)) (s .origin) (s .address) (sym (k .before .is-outside .ensures) ∙ k .if2 .left)
-
-address : (k : tie.Else2) → let s = k .before .before .before .before .before .before .args in s .origin + (s .address - s .origin) ≡ s .address
-address k = omega (arith, at k .0)
+at : (k : tie.Else2) → let s = k .before .before .before .before .before .before .args in Within (now (s .image)) (s .origin) (s .address)
+at k = let s = k .before .before .before .before .before .before .args in within (now (s .image)) (s .origin) (s .address) (sym (k .before .before .before .is-wrong-size .ensures) ∙ k .before .before .if1 .left) (sym (k .before .is-outside .ensures) ∙ k .if2 .left)
 
 sub-give-row : tie.Need-sub-give-row
-sub-give-row c = at c .0
+sub-give-row c = at c .low
 
 give-row-requires : tie.Need-give-row-requires
-give-row-requires c κs = (omega (arith, at (c .before) .0, at (c .before) .1), sized (c .before .before .before))
+give-row-requires c κs = (at (c .before) .place, at (c .before) .size)
 
 returns-3 : tie.Need-returns-3
 returns-3 c =
-    let given = rw (address (c .before .before .before .before)) at (c .before .before .give-row .ensures) in
+    let given = rw (at (c .before .before .before .before) .again) at (c .before .before .give-row .ensures) in
     rw (sym (c .before .before .before .before .before .before .before .is-wrong-size .ensures) ∙ c .before .before .before .before .before .before .if1 .left, sym (c .before .before .before .before .before .is-outside .ensures) ∙ c .before .before .before .before .if2 .left) given
 
 pub row-spec : {M : Type 1} → statement M
