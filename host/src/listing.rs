@@ -37,7 +37,7 @@ impl Place<'_> {
         Ok(Row { line, passed })
     }
 
-    /// The image's bytes from the address on, at most four; or the refusal, of the image before the address.
+    /// What is looked at here; or the refusal, of the image before the address.
     fn window(&self) -> Result<&[u8], Refusal> {
         let (origin, address) = (self.origin as usize, self.address as usize);
         let end = origin + self.image.len();
@@ -47,9 +47,13 @@ impl Place<'_> {
         if address < origin || address >= end {
             return Err(Refusal::Nothing);
         }
-        let rest = &self.image[address - origin..];
-        Ok(&rest[..rest.len().min(LARGEST_INPUT)])
+        Ok(window(self.image, address - origin))
     }
+}
+
+/// The bytes that are looked at for a row: at most four, none past the image's end.
+pub fn window(image: &[u8], at: usize) -> &[u8] {
+    &image[at..image.len().min(at + LARGEST_INPUT)]
 }
 
 /// The rows of a whole image, each beginning where the one before ends.

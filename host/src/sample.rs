@@ -2,7 +2,7 @@
 
 pub mod source;
 
-use crate::answer::LARGEST_INPUT;
+use crate::listing::{listing, window};
 use crate::original::disas;
 use source::{Row, Source};
 
@@ -26,11 +26,6 @@ pub fn marks(source: &Source) -> Vec<u8> {
 pub fn entries(source: &Source) -> Result<Vec<u8>, String> {
     let places = source.entries()?.into_iter();
     Ok(places.flat_map(u16::to_le_bytes).collect())
-}
-
-/// The up to four bytes that a row is decoded from.
-pub fn window(image: &[u8], at: usize) -> &[u8] {
-    &image[at..image.len().min(at + LARGEST_INPUT)]
 }
 
 /// Holds each row's text to its bytes.
@@ -79,16 +74,8 @@ fn instruction(image: &[u8], row: &Row) -> Result<String, String> {
     Ok(text.trim_end().into())
 }
 
-/// Document 01's listing of an image at origin 0, made by the original.
-pub fn listing(image: &[u8]) -> String {
-    let (mut at, mut lines) = (0, String::new());
-    while at < image.len() {
-        let (text, passed) = match disas(window(image, at)) {
-            Some(record) => (format!("{record:?}"), record.length as usize),
-            None => (format!("{:02X} \t\t?", image[at]), 1),
-        };
-        lines += &format!("{at:04X} {text}\n");
-        at += passed;
-    }
-    lines
+/// What is printed for an image at origin 0.
+pub fn printed(image: &[u8]) -> Vec<u8> {
+    let rows = listing(image, 0).expect("an image that fits");
+    rows.into_iter().flat_map(|row| row.line).collect()
 }

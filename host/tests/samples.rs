@@ -1,8 +1,9 @@
 //! The sample's files held to its source, the source to the original, and the map to document 01's marking rules.
 
+use host::listing::window;
 use host::original::{disas, Instruction, OpCode, Operand};
 use host::sample::source::Source;
-use host::sample::{entries, hold_texts, image, listing, marks, window};
+use host::sample::{entries, hold_texts, image, marks, printed};
 use std::fs;
 
 fn stored(ending: &str) -> Vec<u8> {
@@ -65,7 +66,7 @@ fn held_to_source(ending: &str, bytes: &[u8]) -> bool {
         "rom" => image(&source),
         "map" => marks(&source),
         "entries" => entries(&source).unwrap(),
-        _ => listing(&image(&source)).into_bytes(),
+        _ => printed(&image(&source)),
     };
     bytes == given
 }

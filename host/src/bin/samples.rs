@@ -1,7 +1,7 @@
 //! Writes the files of the sample ROM from its source.
 
 use host::sample::source::Source;
-use host::sample::{entries, hold_texts, image, listing, marks};
+use host::sample::{entries, hold_texts, image, marks, printed};
 use std::path::Path;
 use std::process::ExitCode;
 use std::{env, fs};
@@ -13,7 +13,7 @@ fn write(dir: &Path) -> Result<(), String> {
     hold_texts(&source)?;
     let image = image(&source);
     let files = [
-        ("scanner.list", listing(&image).into_bytes()),
+        ("scanner.list", printed(&image)),
         ("scanner.rom", image),
         ("scanner.map", marks(&source)),
         ("scanner.entries", entries(&source)?),
