@@ -29,7 +29,7 @@ rowsAnswer image origin address out =
     (cond (ltb (length out) 58) Listed.NoRoom
     (Listed.Done (length (printed (pageAt image origin address out))) (length (joined (pageAt image origin address out))))))
 
--- the lent bytes then: the lines at the front, on a refusal all as they were
+-- the lent bytes then: the lines at the front, on a refusal all as they were; with too little room no row is on the page
 abbrev pub rowsBytes : List ℕ → ℕ → ℕ → List ℕ → List ℕ
 rowsBytes image origin address out =
     cond (wrongSize image origin) out
