@@ -1,6 +1,7 @@
 -- `print` meets its contract: what is left of the image falls. Assumes nothing.
 use mathlib.Core.Path.{_≡_}
 use Prim.Native.Nat.{_-_, _≤_}
+use native.Mathlib.Omega.{arith}
 use lib.ListN.{length}
 use borrow.Author.Needs.{needs}
 use Rattle.lister.proofs.print.Statement.{statement}
@@ -11,6 +12,9 @@ Inv-loop image page₀ place₀ page place = (65536 ≡ length page) × (place �
 
 abbrev μ-loop : tie.MeasureT-loop
 μ-loop image page₀ place₀ page place = length image - place
+
+loop-less : tie.Need-loop-less Inv-loop μ-loop
+loop-less c = omega (arith, c .if1 .left, c .before .before .before .before .loop-test .taken)
 
 pub print-spec : {M : Type 1} → statement M
 print-spec =
@@ -24,6 +28,6 @@ print-spec =
     (λ c. search needs)
     (λ c. search needs)
     (λ c. search needs)
-    (λ c. search needs)
+    loop-less
     (λ c. search needs)
     (λ c. search needs))
