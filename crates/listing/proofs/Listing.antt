@@ -4,7 +4,8 @@ use mathlib.Core.List.{List, [], _∷_, _++_}
 use Prim.Native.Nat.{ℕ, zero, suc, _+_, _-_, _*_, _≤_}
 use native.Mathlib.Omega.{arith}
 use lib.ListN.{length, take, drop, take-append-drop}
-use Rattle.listing.specs.Rows.{window, passedOf, Row, rowAt, rowsBehind, listing, joined}
+use Rattle.image.specs.Places.{window}
+use Rattle.listing.specs.Rows.{passedOf, Row, rowAt, rowsBehind, listing, joined}
 use Rattle.listing.specs.Consequences.{Every, Answered, leftAfter}
 use Rattle.listing.proofs.Passed.{passed-least, passed-most}
 

@@ -16,8 +16,9 @@ use Rattle.wording.specs.Text.{fullText}
 use Rattle.wording.proofs.Longest.{full-most, drop-bytes}
 use Rattle.line.specs.Line.{decodedLine, shortLine, lineBy}
 use Rattle.listing.specs.declared.Listed.{Listed}
-use Rattle.listing.specs.Rows.{window, lineOf, passedOf}
-use Rattle.listing.specs.Answers.{countOf, passedOver, wrongSize, outside, windowAt, listed, givenBy, rowAnswer}
+use Rattle.image.specs.Places.{wrongSize, outside, window, windowAt}
+use Rattle.listing.specs.Rows.{lineOf, passedOf}
+use Rattle.listing.specs.Answers.{countOf, passedOver, listed, givenBy, rowAnswer}
 use Rattle.listing.proofs.Passed.{passed-most}
 
 short-most : (a b : ℕ) → length (shortLine a b) ≤ 58

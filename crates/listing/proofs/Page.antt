@@ -12,8 +12,9 @@ use Rattle.table.specs.Consequences.{AllBytes}
 use Rattle.table.proofs.Pages.{chosen}
 use Rattle.wording.proofs.Longest.{drop-bytes}
 use Rattle.listing.specs.declared.Listed.{Listed}
-use Rattle.listing.specs.Rows.{window, lineOf, passedOf, Row, rowAt, listing, printed, joined}
-use Rattle.listing.specs.Answers.{countOf, passedOver, wrongSize, outside}
+use Rattle.image.specs.Places.{wrongSize, outside, window}
+use Rattle.listing.specs.Rows.{lineOf, passedOf, Row, rowAt, listing, printed, joined}
+use Rattle.listing.specs.Answers.{countOf, passedOver}
 use Rattle.listing.specs.Page.{page, rowsAnswer}
 use Rattle.listing.specs.Consequences.{Every}
 use Rattle.listing.proofs.Passed.{passed-least, passed-within}

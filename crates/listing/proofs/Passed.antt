@@ -1,16 +1,18 @@
 -- How many bytes a row passes. Assumes nothing.
 use mathlib.Core.Path.{_≡_, refl}
-use Prim.Native.Nat.{ℕ, _≤_, min}
+use Prim.Native.Nat.{ℕ, _≤_}
 use native.Mathlib.Omega.{arith}
 use mathlib.Core.List.{List}
-use lib.ListN.{length, length-take}
+use lib.ListN.{length}
 use Rattle.opcode.specs.declared.record.OpCode.{OpCode}
 use Rattle.table.specs.declared.Answer.{Answer}
 use Rattle.table.specs.Decode.{decodeOf}
 use Rattle.table.specs.Consequences.{Keeps}
 use Rattle.table.proofs.Sizes.{sizes}
 use Rattle.line.specs.Line.{passedBy}
-use Rattle.listing.specs.Rows.{window, passedOf}
+use Rattle.image.specs.Places.{window}
+use Rattle.image.proofs.Window.{window-size}
+use Rattle.listing.specs.Rows.{passedOf}
 
 -- p bytes passed of n looked at
 record Passes (n p : ℕ) : Type 0 where
@@ -36,10 +38,6 @@ passed-least w = of w .least
 
 pub passed-most : (w : List ℕ) → passedOf w ≤ 4
 passed-most w = of w .most
-
--- up to four bytes are looked at
-pub window-size : (s : List ℕ) → length (window s) ≡ min 4 (length s)
-window-size s = length-take 4 s
 
 -- no row passes more than there is
 pub passed-within : (s : List ℕ) → 1 ≤ length s → passedOf (window s) ≤ length s

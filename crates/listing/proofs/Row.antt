@@ -11,10 +11,12 @@ use Rattle.table.specs.declared.Answer.{Answer}
 use Rattle.table.specs.Decode.{decodeOf}
 use Rattle.table.proofs.Answers.{nothing-exactly, long-exactly}
 use Rattle.wording.specs.Answers.{fitted}
-use Rattle.listing.specs.Rows.{window, passedOf, Row, rowAt}
-use Rattle.listing.specs.Answers.{wrongSize, outside, windowAt, listed, rowAnswer}
+use Rattle.image.specs.Places.{wrongSize, outside, window, windowAt}
+use Rattle.listing.specs.Rows.{passedOf, Row, rowAt}
+use Rattle.listing.specs.Answers.{listed, rowAnswer}
 use Rattle.listing.specs.Consequences.{Answered}
-use Rattle.listing.proofs.Passed.{window-size, passed-within}
+use Rattle.image.proofs.Window.{window-size}
+use Rattle.listing.proofs.Passed.{passed-within}
 
 -- a row's window is Done or Short: it is not empty, and has no more than four bytes
 told : (a : Answer) → (a ≡ Answer.Nothing → ⊥) → (a ≡ Answer.Long → ⊥) → (a ≡ Answer.Done) ⊎ (a ≡ Answer.Short)

@@ -1,13 +1,12 @@
 -- What listing a row answers, and the lent bytes as it leaves them. Definitions only.
-use Prim.Native.Nat.{ℕ, _+_, _-_}
-use mathlib.Core.Bool.{Bool, cond, _||_}
+use Prim.Native.Nat.{ℕ}
+use mathlib.Core.Bool.{cond}
 use mathlib.Core.List.{List}
-use lib.Dec.{eqb, ltb, leb}
-use lib.ListN.{length, drop}
 use Rattle.wording.specs.declared.Written.{Written}
 use Rattle.wording.specs.Answers.{fitted, leaves}
 use Rattle.listing.specs.declared.Listed.{Listed}
-use Rattle.listing.specs.Rows.{window, lineOf, passedOf}
+use Rattle.image.specs.Places.{wrongSize, outside, windowAt}
+use Rattle.listing.specs.Rows.{lineOf, passedOf}
 
 -- the paper's number of each answer
 abbrev pub numberOf : Listed → ℕ
@@ -29,18 +28,6 @@ passedOver (Listed.Done n p) = p
 passedOver Listed.ImageSize = 0
 passedOver Listed.Nothing = 0
 passedOver Listed.NoRoom = 0
-
--- 5: image empty, or origin + length over 65,536
-abbrev pub wrongSize : List ℕ → ℕ → Bool
-wrongSize image origin = eqb (length image) 0 || ltb 65536 (origin + length image)
-
--- 1: address outside
-abbrev pub outside : List ℕ → ℕ → ℕ → Bool
-outside image origin address = ltb address origin || leb (origin + length image) address
-
--- the bytes that a row at the address looks at
-abbrev pub windowAt : List ℕ → ℕ → ℕ → List ℕ
-windowAt image origin address = window (drop (address - origin) image)
 
 -- a line that was written, or, 4, not: p bytes are passed
 abbrev pub listed : Written → ℕ → Listed

@@ -3,7 +3,8 @@ use Prim.Native.Nat.{ℕ, zero, suc, _+_, _<_}
 use mathlib.Core.Path.{_≡_}
 use mathlib.Core.List.{List, [], _∷_}
 use lib.ListN.{length, drop}
-use Rattle.listing.specs.Rows.{window, passedOf, Row, rowAt}
+use Rattle.image.specs.Places.{window}
+use Rattle.listing.specs.Rows.{passedOf, Row, rowAt}
 
 -- p holds of every row
 abbrev pub Every : (Row → Type 0) → List Row → Type 0

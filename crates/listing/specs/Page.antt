@@ -6,7 +6,7 @@ use lib.Dec.{leb, ltb}
 use lib.ListN.{length, drop}
 use Rattle.listing.specs.declared.Listed.{Listed}
 use Rattle.listing.specs.Rows.{Row, listing, printed, joined}
-use Rattle.listing.specs.Answers.{wrongSize, outside}
+use Rattle.image.specs.Places.{wrongSize, outside}
 
 -- of some rows those that are written to so much room: from the first on, each while there is room for the longest line
 abbrev pub page : ℕ → List Row → List Row

@@ -4,11 +4,8 @@ use mathlib.Core.List.{List, [], _∷_, _++_}
 use lib.ListN.{take}
 use Rattle.table.specs.Decode.{decodeOf}
 use Rattle.table.specs.Consequences.{first}
+use Rattle.image.specs.Places.{window}
 use Rattle.line.specs.Line.{lineBy, passedBy}
-
--- the bytes that a row at the front of s looks at: up to four, none past the image's end
-abbrev pub window : List ℕ → List ℕ
-window s = take 4 s
 
 -- the line at address a of a row that looks at the bytes w
 unfoldable pub lineOf : ℕ → List ℕ → List ℕ

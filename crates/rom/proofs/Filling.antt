@@ -9,7 +9,8 @@ use lib.Seq.{drop-drop}
 use Rattle.table.specs.Consequences.{AllBytes}
 use Rattle.writer.specs.Wrote.{Wrote}
 use Rattle.writer.proofs.Laws.{_▸_, none, counted, whole}
-use Rattle.listing.specs.Rows.{window, lineOf, passedOf, Row, rowAt, listing, printed, joined}
+use Rattle.image.specs.Places.{window}
+use Rattle.listing.specs.Rows.{lineOf, passedOf, Row, rowAt, listing, printed, joined}
 use Rattle.listing.specs.Page.{page}
 use Rattle.listing.proofs.Passed.{passed-within}
 use Rattle.listing.proofs.Longest.{line-most, window-bytes}

@@ -1,31 +1,15 @@
 -- Places of an image: the tests of its size and of an address, and the bytes looked at. Assumes nothing.
-use mathlib.Core.Path.{_≡_, refl, sym, ap}
-use mathlib.Core.Bool.{Bool, true, false}
+use mathlib.Core.Path.{_≡_, refl, ap}
+use mathlib.Core.Bool.{false}
 use mathlib.Core.List.{List, [], _∷_}
 use Prim.Native.Nat.{ℕ, zero, suc, _+_, _-_, _<_, _≤_, min}
 use native.Mathlib.Omega.{arith}
 use lib.Dec.{eqb, ltb, leb}
 use lib.ListN.{length, take, drop, getD}
-use borrow.Author.Tests.{ltb-true, ltb-false, leb-true, leb-false, lt-ltb, le-ltb, le-leb, lt-leb}
+use borrow.Author.Tests.{ltb-false, leb-false}
 use Rattle.table.specs.Consequences.{first}
 use Rattle.table.proofs.Answers.{neither}
-use Rattle.listing.specs.Rows.{window}
-use Rattle.listing.specs.Answers.{wrongSize, outside}
-
-alike : (x y : Bool) → (x ≡ true → y ≡ true) → (x ≡ false → y ≡ false) → x ≡ y
-alike true y up down = sym (up refl)
-alike false y up down = sym (down refl)
-
--- over the end, told without a sum that might not fit
-pub over-told : (a n e : ℕ) → a ≤ e → ltb (e - a) n ≡ ltb e (a + n)
-over-told a n e h =
-    alike (ltb (e - a) n) (ltb e (a + n)) (λ t. lt-ltb e (a + n) (omega (arith, ltb-true (e - a) n t)))
-    (λ f. le-ltb e (a + n) (omega (arith, ltb-false (e - a) n f)))
-
-pub past-told : (a n e : ℕ) → a ≤ e → leb n (e - a) ≡ leb (a + n) e
-past-told a n e h =
-    alike (leb n (e - a)) (leb (a + n) e) (λ t. le-leb (a + n) e (omega (arith, leb-true n (e - a) t)))
-    (λ f. lt-leb (a + n) e (omega (arith, leb-false n (e - a) f)))
+use Rattle.image.specs.Places.{wrongSize, outside, window}
 
 -- what holds of an address past the tests of size and place
 pub record Within (image : List ℕ) (origin address : ℕ) : Type 0 where

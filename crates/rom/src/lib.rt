@@ -1,22 +1,21 @@
 // The rows of an image, by the promises of the decoder and of the text.
-mod places;
-
 ghost use mathlib.Core.Path.{_≡_};
 ghost use mathlib.Core.List.{_++_};
 ghost use Prim.Native.Nat.{_+_, _-_, _<_, _≤_, min};
 ghost use lib.ListN.{length, drop};
 ghost use Rattle.writer.specs.Wrote.{Wrote};
-ghost use Rattle.listing.specs.Rows.{window, lineOf, passedOf, printed, joined};
+ghost use Rattle.image.specs.Places.{window};
+ghost use Rattle.listing.specs.Rows.{lineOf, passedOf, printed, joined};
 ghost use Rattle.listing.specs.Answers.{listed as listedOf, givenBy, leftBy, rowAnswer, rowBytes};
 ghost use Rattle.listing.specs.Page.{pageOf, rowsAnswer, rowsBytes};
 use disas::disas;
+use image::is_outside;
+use image::is_wrong_size;
 use line::LINE_MAX;
 use line::passed;
 use line::put_line;
 use listing::Listed;
 use opcode::record::OpCode;
-use places::is_outside;
-use places::is_wrong_size;
 use wording::Written;
 use writer::give;
 

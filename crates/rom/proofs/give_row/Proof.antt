@@ -6,7 +6,8 @@ use native.Mathlib.Omega.{arith}
 use lib.ListN.{length, take, drop}
 use denote.Ref.{now}
 use Rattle.writer.proofs.Laws.{front, counted, size}
-use Rattle.listing.specs.Rows.{window, lineOf}
+use Rattle.image.specs.Places.{window}
+use Rattle.listing.specs.Rows.{lineOf}
 use Rattle.listing.specs.Answers.{listed}
 use Rattle.listing.proofs.Longest.{line-most, window-bytes}
 use borrow.Author.Needs.{needs}

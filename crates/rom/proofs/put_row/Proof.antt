@@ -7,7 +7,8 @@ use denote.Ref.{now}
 use Rattle.table.specs.Decode.{decodeOf}
 use Rattle.writer.proofs.Laws.{told}
 use Rattle.line.specs.Line.{lineBy}
-use Rattle.listing.specs.Rows.{window, lineOf, passedOf}
+use Rattle.image.specs.Places.{window}
+use Rattle.listing.specs.Rows.{lineOf, passedOf}
 use Rattle.rom.proofs.Inside.{first-of, first-at}
 use borrow.Author.Needs.{needs}
 use Rattle.rom.proofs.put_row.Statement.{statement}

@@ -6,7 +6,7 @@ use lib.ListN.{length, drop}
 use borrow.Author.Tests.{leb-true, leb-false}
 use denote.Ref.{now}
 use Rattle.writer.proofs.Laws.{counted, size}
-use Rattle.listing.specs.Rows.{window}
+use Rattle.image.specs.Places.{window}
 use Rattle.listing.proofs.Passed.{passed-least, passed-most}
 use Rattle.rom.proofs.Filling.{Filling, begins, goes-on, ends-count, ends-passed, ends-bytes}
 use Rattle.rom.proofs.put_rows.Statement.{statement}

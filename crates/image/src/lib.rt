@@ -1,6 +1,6 @@
 // Places of an image, whose first byte stands at the address `origin`.
 ghost use mathlib.Core.Path.{_≡_};
-ghost use Rattle.listing.specs.Answers.{wrongSize, outside};
+ghost use Rattle.image.specs.Places.{wrongSize, outside};
 
 // The addresses that there are: an image ends with the last of them at the latest.
 const ADDRESSES: usize = 65536;

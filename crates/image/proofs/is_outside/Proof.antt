@@ -3,10 +3,10 @@ use mathlib.Core.Path.{refl}
 use lib.ListN.{length}
 use borrow.Author.Tests.{lt-ltb, le-ltb}
 use denote.Ref.{now}
-use Rattle.rom.proofs.Inside.{past-told}
+use Rattle.image.proofs.Told.{past-told}
 use borrow.Author.Needs.{needs}
-use Rattle.rom.proofs.places.is_outside.Statement.{statement}
-use Rattle.rom.proofs.places.is_outside.Tie as tie
+use Rattle.image.proofs.is_outside.Statement.{statement}
+use Rattle.image.proofs.is_outside.Tie as tie
 
 returns : tie.Need-returns
 returns c = rw (lt-ltb _ _ (c .if1 .taken)) refl

@@ -4,10 +4,10 @@ use native.Mathlib.Omega.{arith}
 use lib.ListN.{length}
 use borrow.Author.Tests.{eq-eqb, ne-eqb}
 use denote.Ref.{now}
-use Rattle.rom.proofs.Inside.{over-told}
+use Rattle.image.proofs.Told.{over-told}
 use borrow.Author.Needs.{needs}
-use Rattle.rom.proofs.places.is_wrong_size.Statement.{statement}
-use Rattle.rom.proofs.places.is_wrong_size.Tie as tie
+use Rattle.image.proofs.is_wrong_size.Statement.{statement}
+use Rattle.image.proofs.is_wrong_size.Tie as tie
 
 returns : tie.Need-returns
 returns c = rw (eq-eqb _ _ (c .if1 .taken)) refl
