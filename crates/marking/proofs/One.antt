@@ -1,10 +1,10 @@
 -- Only one answer fits the rules, and it is 0 exactly when none of 5 to 13 holds. Assumes nothing but what `check-right` does.
-use Prim.Native.Nat.{ℕ, _<_, _≤_}
+use Prim.Native.Nat.{ℕ}
 use native.Mathlib.Omega.{arith}
 use mathlib.Core.Path.{_≡_, refl, sym, ap, subst, _∙_}
 use mathlib.Core.Bool.{cond}
 use mathlib.Core.List.{List}
-use mathlib.Core.Logic.{_⊎_, inl, inr, ⊎-elim, _↔_}
+use mathlib.Core.Logic.{inl, inr, ⊎-elim, _↔_}
 use lib.Dec.{eqb}
 use Rattle.marking.specs.declared.Checked.{Checked}
 use Rattle.marking.specs.Rules.{Look, Sane, Chart, entry, MarkValue, EntryNotStart, Passes}

@@ -2,7 +2,7 @@
 use Prim.Native.Nat.{ℕ, zero, suc, _+_, _-_, _≤_, _<_}
 use native.Mathlib.Omega.{arith}
 use mathlib.Core.Path.{_≡_, refl, sym, ap, subst, _∙_}
-use mathlib.Core.Bool.{true, false, cond}
+use mathlib.Core.Bool.{true, false}
 use mathlib.Core.List.{List}
 use mathlib.Core.Logic.{_⊎_, inl, inr, ⊎-elim}
 use lib.Dec.{eqb}
@@ -16,7 +16,7 @@ use Rattle.marking.specs.declared.View.{View}
 use Rattle.marking.specs.declared.Checked.{Checked}
 use Rattle.marking.specs.declared.Judged.{Judged}
 use Rattle.marking.specs.Links.{nexts}
-use Rattle.marking.specs.Rules.{Look, Sane, Chart, InImage, mark, Start, viewAt, RowAt, Unfinished, Clipped, Covers, Stray, BadNext}
+use Rattle.marking.specs.Rules.{Look, Sane, Chart, mark, Start, viewAt, RowAt, Unfinished, Clipped, Covers, Stray, BadNext}
 use Rattle.marking.specs.Verdict.{numberOf, addressOf, Lowest, Broken, unfinished, clipped, stray, bad-next, AnyAt}
 use Rattle.marking.specs.Check.{allInside, allStarts, judgedBy, judgedAt, goOn, pass, firstBroken}
 use Rattle.marking.proofs.Tests.{told, equal-or, less-or, starts-true, starts-false}

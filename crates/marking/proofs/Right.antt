@@ -1,7 +1,7 @@
 -- The check gives the answer that the rules name. Assumes nothing but that the decoder's lengths run from 1 to 4 within the window.
 use Prim.Native.Nat.{ℕ, _+_, _-_, _%_, _≤_, _<_}
 use native.Mathlib.Omega.{arith}
-use mathlib.Core.Path.{_≡_, refl, sym, ap, subst, _∙_}
+use mathlib.Core.Path.{_≡_, refl}
 use mathlib.Core.Bool.{Bool, true, false, cond, not, _||_, or-true}
 use mathlib.Core.List.{List}
 use mathlib.Core.Logic.{_⊎_, inl, inr, ⊎-elim}
@@ -12,8 +12,8 @@ use Rattle.image.specs.Places.{wrongSize}
 use Rattle.marking.specs.declared.Checked.{Checked}
 use Rattle.marking.specs.declared.Entry.{Entry}
 use Rattle.marking.specs.Rules.{Look, Sane, Chart, entries, entry, mark, ImageSize, MarkSize, EntryCount, MarkValue, EntryNotStart}
-use Rattle.marking.specs.Verdict.{numberOf, addressOf, InOrder, Lowest, Some, Broken, AnyAt, Verdict}
-use Rattle.marking.specs.Check.{firstOf, over, firstOver, isStart, wrongCount, notStart, entryBy, firstEntry, firstBroken, entriesBy, checkOf}
+use Rattle.marking.specs.Verdict.{numberOf, addressOf, Lowest, Some, Verdict}
+use Rattle.marking.specs.Check.{firstOf, over, firstOver, isStart, wrongCount, notStart, firstEntry, firstBroken, entriesBy, checkOf}
 use Rattle.marking.proofs.Tests.{told, clash, equal-or, start-true, start-false}
 use Rattle.marking.proofs.First.{First, first}
 use Rattle.marking.proofs.Passing.{PassRight, first-broken}

@@ -1,10 +1,10 @@
 -- Demand 3, over any decoder whose lengths run from 1 to 4 within the window, and any map that meets the marking rules: walks from an entry, and no byte in two marked instructions. What a walk presumes stands in specs/Walk.antt.
 use Prim.Native.Nat.{ℕ, _+_, _-_, _≤_, _<_}
 use native.Mathlib.Omega.{arith}
-use mathlib.Core.Path.{_≡_, refl, sym, subst}
+use mathlib.Core.Path.{_≡_, refl, subst}
 use mathlib.Core.Bool.{Bool, true, false}
 use mathlib.Core.List.{List, [], _∷_}
-use mathlib.Core.Logic.{_⊎_, inl, inr, ⊎-elim}
+use mathlib.Core.Logic.{inl, inr, ⊎-elim}
 use lib.ListN.{length}
 use Rattle.image.specs.Places.{windowAt}
 use Rattle.image.proofs.Window.{window-within}

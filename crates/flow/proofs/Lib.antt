@@ -1,0 +1,3 @@
+pub mod Wrapping
+pub mod Other
+pub mod Sane

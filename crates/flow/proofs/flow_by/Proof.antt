@@ -1,0 +1,101 @@
+-- `flow_by` meets its contract: each arm knows its instruction. Assumes nothing.
+use mathlib.Core.Path.{refl}
+use Rattle.flow.proofs.Other.{after}
+use borrow.Author.Needs.{needs}
+use Rattle.flow.proofs.flow_by.Statement.{statement}
+use Rattle.flow.proofs.flow_by.Tie as tie
+
+returns : tie.Need-returns
+returns c = rw (c .before .enum-told .given .1) (c .jump .ensures)
+
+returns-2 : tie.Need-returns-2
+returns-2 c = rw (c .before .enum-told2 .given .1) (c .jump2 .ensures)
+
+returns-3 : tie.Need-returns-3
+returns-3 c = rw (c .before .enum-told3 .given .1) (c .branch .ensures)
+
+returns-4 : tie.Need-returns-4
+returns-4 c = rw (c .before .enum-told4 .given .1) (c .call .ensures)
+
+returns-5 : tie.Need-returns-5
+returns-5 c = rw (c .before .enum-told5 .given .1) (c .restart .ensures)
+
+returns-6 : tie.Need-returns-6
+returns-6 c = rw (c .before .enum-told6 .given .1) (c .return-by .ensures)
+
+returns-7 : tie.Need-returns-7
+returns-7 c = rw (c .enum-told7 .given .1) refl
+
+returns-8 : tie.Need-returns-8
+returns-8 c = rw (c .enum-told8 .given .1) refl
+
+returns-9 : tie.Need-returns-9
+returns-9 c = rw (c .enum-told9 .given .1) refl
+
+returns-10 : tie.Need-returns-10
+returns-10 c = rw (c .enum-told10 .given .1) refl
+
+returns-11 : tie.Need-returns-11
+returns-11 c = rw (c .enum-told11 .given .1) refl
+
+returns-12 : tie.Need-returns-12
+returns-12 c = rw (c .enum-told12 .given .1) refl
+
+returns-13 : tie.Need-returns-13
+returns-13 c = rw (c .enum-told13 .given .1) refl
+
+returns-14 : tie.Need-returns-14
+returns-14 c = rw (c .enum-told14 .given .1) refl
+
+returns-15 : tie.Need-returns-15
+returns-15 c = rw (c .enum-told15 .given .1) refl
+
+returns-16 : tie.Need-returns-16
+returns-16 c = rw (c .enum-told16 .given .1) refl
+
+returns-17 : tie.Need-returns-17
+returns-17 c = after (c .before .args .ins) (c .before .args .x) (c .before .args .y) (c .match .keys17)
+
+pub flow-by-spec : {M : Type 1} → statement M
+flow-by-spec =
+    tie.close
+    (tie.spec
+    (λ c. search needs)
+    (λ c κs. search needs)
+    (λ c. search needs)
+    (λ c κs. search needs)
+    (λ c. search needs)
+    (λ c κs. search needs)
+    (λ c. search needs)
+    (λ c κs. search needs)
+    (λ c. search needs)
+    (λ c κs. search needs)
+    (λ c. search needs)
+    (λ c κs. search needs)
+    (λ c. search needs)
+    (λ c. search needs)
+    (λ c. search needs)
+    (λ c. search needs)
+    (λ c. search needs)
+    (λ c. search needs)
+    (λ c. search needs)
+    (λ c. search needs)
+    (λ c. search needs)
+    (λ c. search needs)
+    returns
+    returns-2
+    returns-3
+    returns-4
+    returns-5
+    returns-6
+    returns-7
+    returns-8
+    returns-9
+    returns-10
+    returns-11
+    returns-12
+    returns-13
+    returns-14
+    returns-15
+    returns-16
+    returns-17)
