@@ -3,8 +3,8 @@ use mathlib.Core.Path.{refl, sym, _∙_}
 use denote.Ref.{now}
 use Rattle.rom.proofs.Inside.{Within, within}
 use borrow.Author.Needs.{needs}
-use Rattle.rom.proofs.row.Statement.{statement}
-use Rattle.rom.proofs.row.Tie as tie
+use Rattle.rom.proofs.lines.row.Statement.{statement}
+use Rattle.rom.proofs.lines.row.Tie as tie
 
 returns : tie.Need-returns
 returns c = rw (sym (c .before .is-wrong-size .ensures) ∙ c .if1 .taken) (refl, refl)

@@ -1,8 +1,8 @@
 -- `window_end` meets its contract: four bytes on, or the end. Assumes nothing.
 use native.Mathlib.Omega.{arith}
 use borrow.Author.Needs.{needs}
-use Rattle.rom.proofs.window_end.Statement.{statement}
-use Rattle.rom.proofs.window_end.Tie as tie
+use Rattle.rom.proofs.window.window_end.Statement.{statement}
+use Rattle.rom.proofs.window.window_end.Tie as tie
 
 returns : tie.Need-returns
 returns c = omega (arith, c .if1 .taken, c .before .pre)

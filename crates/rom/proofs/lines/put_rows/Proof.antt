@@ -9,8 +9,8 @@ use Rattle.writer.proofs.Laws.{counted, size}
 use Rattle.image.specs.Places.{window}
 use Rattle.listing.proofs.Passed.{passed-least, passed-most}
 use Rattle.rom.proofs.Filling.{Filling, begins, goes-on, ends-count, ends-passed, ends-bytes}
-use Rattle.rom.proofs.put_rows.Statement.{statement}
-use Rattle.rom.proofs.put_rows.Tie as tie
+use Rattle.rom.proofs.lines.put_rows.Statement.{statement}
+use Rattle.rom.proofs.lines.put_rows.Tie as tie
 
 abbrev Inv-loop : tie.InvT-loop
 Inv-loop image origin start out₀ next₀ place₀ out next place = Filling image origin start out₀ out next place

@@ -9,8 +9,8 @@ use Rattle.listing.specs.Rows.{listing}
 use Rattle.listing.proofs.Page.{page-full}
 use Rattle.rom.proofs.Inside.{Within, within}
 use borrow.Author.Needs.{needs}
-use Rattle.rom.proofs.rows.Statement.{statement}
-use Rattle.rom.proofs.rows.Tie as tie
+use Rattle.rom.proofs.lines.rows.Statement.{statement}
+use Rattle.rom.proofs.lines.rows.Tie as tie
 
 returns : tie.Need-returns
 returns c = rw (sym (c .before .is-wrong-size .ensures) ∙ c .if1 .taken) (refl, refl)

@@ -11,8 +11,8 @@ use Rattle.listing.specs.Rows.{lineOf}
 use Rattle.listing.specs.Answers.{listed}
 use Rattle.listing.proofs.Longest.{line-most, window-bytes}
 use borrow.Author.Needs.{needs}
-use Rattle.rom.proofs.give_row.Statement.{statement}
-use Rattle.rom.proofs.give_row.Tie as tie
+use Rattle.rom.proofs.lines.give_row.Statement.{statement}
+use Rattle.rom.proofs.lines.give_row.Tie as tie
 
 -- the line; its length is the place reached, and the part that `give` is lent is the line itself
 abbrev made : tie.After-put-row → List ℕ

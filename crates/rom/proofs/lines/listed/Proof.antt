@@ -2,8 +2,8 @@
 use mathlib.Core.Path.{refl}
 use Rattle.rom.proofs.Other.{no-room}
 use borrow.Author.Needs.{needs}
-use Rattle.rom.proofs.listed.Statement.{statement}
-use Rattle.rom.proofs.listed.Tie as tie
+use Rattle.rom.proofs.lines.listed.Statement.{statement}
+use Rattle.rom.proofs.lines.listed.Tie as tie
 
 returns : tie.Need-returns
 returns c = rw (c .before .written .given .1) refl

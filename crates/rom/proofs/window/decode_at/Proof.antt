@@ -1,0 +1,28 @@
+-- `decode_at` meets its contract: the bytes lent to the decoder are the window. Assumes nothing.
+use mathlib.Core.Path.{ap, _∙_}
+use Prim.Native.Nat.{_-_}
+use native.Mathlib.Omega.{arith}
+use lib.ListN.{drop, length-drop}
+use denote.Ref.{now}
+use Rattle.table.specs.Decode.{decodeOf}
+use Rattle.rom.proofs.Inside.{first-of}
+use borrow.Author.Needs.{needs}
+use Rattle.rom.proofs.window.decode_at.Statement.{statement}
+use Rattle.rom.proofs.window.decode_at.Tie as tie
+
+returns : tie.Need-returns
+returns c = 
+    let e = c .before .before .window-end in
+    let s = c .before .before .before .before .args in
+    c .disas .ensures ∙ ap decodeOf (first-of 4 (e .result - s .place) (drop (s .place) (now (s .image))) (omega (arith, e .ensures, length-drop (s .place) (now (s .image)), c .before .before .before .before .pre)))
+
+pub decode-at-spec : {M : Type 1} → statement M
+decode-at-spec =
+    tie.close
+    (tie.spec
+    (λ c κs. search needs)
+    (λ c. search needs)
+    (λ c. search needs)
+    (λ c. search needs)
+    (λ c κs. search needs)
+    returns)
