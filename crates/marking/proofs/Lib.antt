@@ -4,3 +4,4 @@ pub mod Passing
 pub mod Right
 pub mod One
 pub mod Walks
+pub mod Turns

@@ -167,7 +167,7 @@ module _ (look : Look) (sane : Sane look) (m : Chart) (same : length (m .marks) 
                 same-row : (s k : ℕ) (g : Flow) → RowAt look m s k g → here ≡ s → s + k ≤ here + n
                 same-row s k g r e = let q = one-row k g (subst (λ (j : ℕ). RowAt look m j k g) (sym e) r) .0 in omega arith
 
-      judged-row : JudgedRight (judgedBy m i (View.Row n f))
+      judged-row : JudgedRight (judgedBy (m .marks) (m .origin) i (View.Row n f))
       unfolding judgedBy
       judged-row =
           ⊎-elim
@@ -177,7 +177,7 @@ module _ (look : Look) (sane : Sane look) (m : Chart) (same : length (m .marks) 
           (λ t. rw t (broken (Checked.Clipped here) refl (lowest-number look m here 11 (omega arith) (λ _. not-10) (λ l. absurd (omega arith)) (λ l. absurd (omega arith)) (clipped (is-clipped t)))))
           (told (allInside later))
 
-    judged-start : Start m here → (v : View) → viewAt look (m .image) (m .origin) here ≡ v → JudgedRight (judgedBy m i v)
+    judged-start : Start m here → (v : View) → viewAt look (m .image) (m .origin) here ≡ v → JudgedRight (judgedBy (m .marks) (m .origin) i v)
     unfolding judgedBy
     judged-start s View.Refused e =
         broken (Checked.Unfinished here) refl
