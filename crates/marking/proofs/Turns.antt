@@ -86,9 +86,10 @@ module _ (look : Look) (sane : Sane look) (m : Chart) where
         let room = fine-room i k inside e in
         let c = length (m .image) - (i + 1) in
         let a : c - (k - 1) ≡ length (m .image) - (i + k) = omega (arith, room .least, room .ends) in
-        let b : suc i + (k - 1) ≡ i + k = omega (arith, room .least) in
-        (omega (arith, room .least),
-        record { upto = room .ends; rest = turning .rest ∙ next ∙ rw e (skip c (k - 1) (suc i) (omega (arith, room .least, room .ends)) ∙ rw (a, b) refl) })
+        let b : suc i + (k - 1) ≡ i + k = omega (arith, room .least) in (
+          omega (arith, room .least),
+          record { upto = room .ends; rest = turning .rest ∙ next ∙ rw e (skip c (k - 1) (suc i) (omega (arith, room .least, room .ends)) ∙ rw (a, b) refl) },
+        )
 
     pub turning-stop : (x : Checked) → judgedAt look m i ≡ Judged.Broken x → firstBroken look m ≡ x
     turning-stop x e = turning .rest ∙ next ∙ rw e refl

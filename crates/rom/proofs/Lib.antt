@@ -1,3 +1,4 @@
 pub mod Inside
 pub mod Other
 pub mod Filling
+pub mod Named

@@ -1,6 +1,8 @@
-// What stands above the decoder and the text and relies on their promises alone: the rows of an image.
+// What stands above the decoder and relies on its promise alone: the rows of an image, and the check of its map.
 mod lines;
+mod map;
 mod window;
 
 pub use lines::row;
 pub use lines::rows;
+pub use map::map_check;

@@ -8,13 +8,13 @@ ghost use Rattle.image.specs.Places.{window};
 ghost use Rattle.listing.specs.Rows.{lineOf, passedOf, printed, joined};
 ghost use Rattle.listing.specs.Answers.{listed as listedOf, givenBy, leftBy, rowAnswer, rowBytes};
 ghost use Rattle.listing.specs.Page.{pageOf, rowsAnswer, rowsBytes};
+use super::window::decode_at;
 use image::is_outside;
 use image::is_wrong_size;
 use line::LINE_MAX;
 use line::passed;
 use line::put_line;
 use listing::Listed;
-use super::window::decode_at;
 use wording::Written;
 use writer::give;
 

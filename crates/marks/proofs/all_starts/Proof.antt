@@ -1,7 +1,6 @@
 -- `all_starts` meets its contract: each arm knows its links. Assumes nothing.
-use mathlib.Core.Path.{refl, sym, _∙_}
+use mathlib.Core.Path.{refl}
 use mathlib.Core.Bool.{and-true}
-use Rattle.marking.specs.Check.{isStart}
 use borrow.Author.Needs.{needs}
 use Rattle.marks.proofs.all_starts.Statement.{statement}
 use Rattle.marks.proofs.all_starts.Tie as tie
