@@ -6,7 +6,6 @@ use mathlib.Core.Bool.{false}
 use lib.ListN.{length}
 use denote.Ref.{now}
 use borrow.Author.Tests.{eq-eqb, ne-eqb, lt-ltb, le-ltb}
-use Rattle.marking.specs.Rules.{chart}
 use Rattle.marking.specs.Check.{checkOf}
 use Rattle.rom.proofs.Inside.{sized}
 use Rattle.rom.proofs.Named.{named}
@@ -20,15 +19,15 @@ ends k left = sized (now (k .before .before .before .before .args .image)) (k .b
 
 returns : tie.Need-returns
 unfolding checkOf
-returns c = named (chart (now (c .before .before .before .before .before .args .image)) (c .before .before .before .before .before .args .origin) (now (c .before .before .before .before .before .args .marks))) (now (c .before .before .before .before .before .args .entries)) _ (rw (← c .before .is-wrong-size .ensures, c .if1 .taken) refl)
+returns c = named _ _ _ (rw (← c .before .is-wrong-size .ensures, c .if1 .taken) refl)
 
 returns-2 : tie.Need-returns-2
 unfolding checkOf
-returns-2 c = named (chart (now (c .before .before .before .before .before .before .args .image)) (c .before .before .before .before .before .before .args .origin) (now (c .before .before .before .before .before .before .args .marks))) (now (c .before .before .before .before .before .before .args .entries)) _ (rw (← c .before .before .is-wrong-size .ensures, c .before .if1 .left) (rw (ne-eqb _ _ (c .if2 .taken)) refl))
+returns-2 c = named _ _ _ (rw (← c .before .before .is-wrong-size .ensures, c .before .if1 .left) (rw (ne-eqb _ _ (c .if2 .taken)) refl))
 
 returns-3 : tie.Need-returns-3
 unfolding checkOf
-returns-3 c = named (chart (now (c .before .before .before .before .before .before .before .before .args .image)) (c .before .before .before .before .before .before .before .before .args .origin) (now (c .before .before .before .before .before .before .before .before .args .marks))) (now (c .before .before .before .before .before .before .before .before .args .entries)) _ (rw (← c .before .before .before .before .is-wrong-size .ensures, c .before .before .before .if1 .left) (rw (eq-eqb _ _ (c .before .before .if2 .left)) (rw (← c .before .is-wrong-count .ensures, c .if3 .taken) refl)))
+returns-3 c = named _ _ _ (rw (← c .before .before .before .before .is-wrong-size .ensures, c .before .before .before .if1 .left) (rw (eq-eqb _ _ (c .before .before .if2 .left)) (rw (← c .before .is-wrong-count .ensures, c .if3 .taken) refl)))
 
 cast-t12 : tie.Need-cast-t12
 cast-t12 c = record { fits = omega (arith, ends (c .before .before .before .before .before .before) (c .before .before .before .before .before .if1 .left), c .before .before .before .before .if2 .left, c .if4 .taken) }
@@ -38,15 +37,15 @@ add-t13 c = record { fits = omega (arith, ends (c .before .before .before .befor
 
 returns-4 : tie.Need-returns-4
 unfolding checkOf
-returns-4 c = named (chart (now (c .before .before .before .before .before .before .before .before .before .before .args .image)) (c .before .before .before .before .before .before .before .before .before .before .args .origin) (now (c .before .before .before .before .before .before .before .before .before .before .args .marks))) (now (c .before .before .before .before .before .before .before .before .before .before .args .entries)) _ (rw (← c .before .before .before .before .before .before .is-wrong-size .ensures, c .before .before .before .before .before .if1 .left) (rw (eq-eqb _ _ (c .before .before .before .before .if2 .left)) (rw (← c .before .before .before .is-wrong-count .ensures, c .before .before .if3 .left) (rw (← c .before .first-over .ensures, lt-ltb _ _ (c .if4 .taken)) refl))))
+returns-4 c = named _ _ _ (rw (← c .before .before .before .before .before .before .is-wrong-size .ensures, c .before .before .before .before .before .if1 .left) (rw (eq-eqb _ _ (c .before .before .before .before .if2 .left)) (rw (← c .before .before .before .is-wrong-count .ensures, c .before .before .if3 .left) (rw (← c .before .first-over .ensures, lt-ltb _ _ (c .if4 .taken)) refl))))
 
 returns-5 : tie.Need-returns-5
 unfolding checkOf
-returns-5 c = named (chart (now (c .before .before .before .before .before .before .before .before .before .before .before .before .before .before .args .image)) (c .before .before .before .before .before .before .before .before .before .before .before .before .before .before .args .origin) (now (c .before .before .before .before .before .before .before .before .before .before .before .before .before .before .args .marks))) (now (c .before .before .before .before .before .before .before .before .before .before .before .before .before .before .args .entries)) _ (rw (← c .before .before .before .before .before .before .before .before .before .before .is-wrong-size .ensures, c .before .before .before .before .before .before .before .before .before .if1 .left) (rw (eq-eqb _ _ (c .before .before .before .before .before .before .before .before .if2 .left)) (rw (← c .before .before .before .before .before .before .before .is-wrong-count .ensures, c .before .before .before .before .before .before .if3 .left) (rw (← c .before .before .before .before .before .first-over .ensures, le-ltb _ _ (c .before .before .before .before .if4 .left)) (rw (← c .before .before .before .first-entry .ensures, c .before .address .given .1) refl)))))
+returns-5 c = named _ _ _ (rw (← c .before .before .before .before .before .before .before .before .before .before .is-wrong-size .ensures, c .before .before .before .before .before .before .before .before .before .if1 .left) (rw (eq-eqb _ _ (c .before .before .before .before .before .before .before .before .if2 .left)) (rw (← c .before .before .before .before .before .before .before .is-wrong-count .ensures, c .before .before .before .before .before .before .if3 .left) (rw (← c .before .before .before .before .before .first-over .ensures, le-ltb _ _ (c .before .before .before .before .if4 .left)) (rw (← c .before .before .before .first-entry .ensures, c .before .address .given .1) refl)))))
 
 returns-6 : tie.Need-returns-6
 unfolding checkOf
-returns-6 c = named (chart (now (c .before .before .before .before .before .before .before .before .before .before .before .before .before .before .args .image)) (c .before .before .before .before .before .before .before .before .before .before .before .before .before .before .args .origin) (now (c .before .before .before .before .before .before .before .before .before .before .before .before .before .before .args .marks))) (now (c .before .before .before .before .before .before .before .before .before .before .before .before .before .before .args .entries)) _ (rw (← c .before .before .before .before .before .before .before .before .before .before .is-wrong-size .ensures, c .before .before .before .before .before .before .before .before .before .if1 .left) (rw (eq-eqb _ _ (c .before .before .before .before .before .before .before .before .if2 .left)) (rw (← c .before .before .before .before .before .before .before .is-wrong-count .ensures, c .before .before .before .before .before .before .if3 .left) (rw (← c .before .before .before .before .before .first-over .ensures, le-ltb _ _ (c .before .before .before .before .if4 .left)) (rw (← c .before .before .before .first-entry .ensures, c .before .enum-told .given .1) (c .first-broken .ensures))))))
+returns-6 c = named _ _ _ (rw (← c .before .before .before .before .before .before .before .before .before .before .is-wrong-size .ensures, c .before .before .before .before .before .before .before .before .before .if1 .left) (rw (eq-eqb _ _ (c .before .before .before .before .before .before .before .before .if2 .left)) (rw (← c .before .before .before .before .before .before .before .is-wrong-count .ensures, c .before .before .before .before .before .before .if3 .left) (rw (← c .before .before .before .before .before .first-over .ensures, le-ltb _ _ (c .before .before .before .before .if4 .left)) (rw (← c .before .before .before .first-entry .ensures, c .before .enum-told .given .1) (c .first-broken .ensures))))))
 
 pub map-check-spec : {M : Type 1} → statement M
 map-check-spec =
