@@ -17,6 +17,10 @@ use Rattle.opcode.specs.Record.{emptyOf}
 use Rattle.table.specs.declared.Answer.{Answer}
 use Rattle.table.specs.declared.Answer.the-variants.{Short, Long}
 use Rattle.table.specs.Decode.{decodeOf}
+use Rattle.marking.specs.declared.Checked.{Checked}
+use Rattle.marking.specs.Rules.{chart}
+use Rattle.marking.specs.Verdict.{numberOf, addressOf, Verdict}
+use Rattle.flow.specs.Flow.{lookOf}
 
 pub data Starred : Type 0 where
   -- bytes that decode to a length, an instruction, operands and T-states
@@ -25,6 +29,8 @@ pub data Starred : Type 0 where
   refuses : List ℕ → Answer → Starred
   -- any five bytes are refused
   five : Answer → Starred
+  -- a map at origin 0, with its image, marks and entries, is given an answer
+  checks : List ℕ → List ℕ → List ℕ → Checked → Starred
 
 abbrev pub starred : List Starred
 starred =
@@ -44,6 +50,7 @@ starred =
     ∷ reads (0xFD ∷ 0xCB ∷ 0x7F ∷ 0xC6 ∷ []) 4 SET (Imm8 0x00 ∷ Operand.RegI (RegI.IY (pos 127)) ∷ []) (4 ∷ 4 ∷ 3 ∷ 5 ∷ 4 ∷ 3 ∷ [])
     ∷ reads (0xDD ∷ 0xED ∷ 0x62 ∷ 0x00 ∷ []) 3 SBC (Operand.Reg16 Reg16.IX ∷ Operand.Reg16 Reg16.IX ∷ []) (4 ∷ 4 ∷ 4 ∷ 4 ∷ 3 ∷ [])
     ∷ five Long
+    ∷ checks (0x18 ∷ 0xFE ∷ []) (1 ∷ 2 ∷ []) (0 ∷ 0 ∷ []) Checked.Done
     ∷ []
 
 -- the operand places, those behind the last operand being empty
@@ -62,7 +69,7 @@ asStates (t ∷ ts) = record { 0 = t } ∷ asStates ts
 abbrev pub zeros : List ℕ
 zeros = 0 ∷ 0 ∷ 0 ∷ 0 ∷ 0 ∷ 0 ∷ []
 
--- what a claim says: answer and every field of the record, data and T-states padded with zeros
+-- what a claim says: answer and every field of the record, data and T-states padded with zeros; of a map, that the marking rules name this answer
 abbrev pub Holds : Starred → Type 0
 Holds (reads s n i os ts) =
     decodeOf s
@@ -82,6 +89,7 @@ Holds (reads s n i os ts) =
     }
 Holds (refuses s a) = decodeOf s ≡ record { answer = a; rec = emptyOf }
 Holds (five a) = (b0 b1 b2 b3 b4 : ℕ) → decodeOf (b0 ∷ b1 ∷ b2 ∷ b3 ∷ b4 ∷ []) ≡ record { answer = a; rec = emptyOf }
+Holds (checks s ms es x) = Verdict lookOf (chart s 0 ms) es (numberOf x) (addressOf x)
 
 abbrev pub All : List Starred → Type 0
 All [] = Unit {0}
