@@ -240,7 +240,8 @@ module _ (look : Look) (sane : Sane look) (m : Chart) (same : length (m .marks) 
 
       go : (j : Judged) → JudgedRight i (omega arith) first j → ((n : ℕ) → 1 ≤ n → i + n ≤ length (m .image) → Upto (i + n) → PassRight (pass look m c (n - 1) (suc i))) → PassRight (goOn look m j (λ (n : ℕ). pass look m c (n - 1) (suc i)))
       go _ (fine n l h next) rest = rest n l h next
-      go _ (broken x a low) rest = inr (rw a (record { holds = (numberOf x, low .holds); below = λ b l. first .clean b l }), rw a low)
+      go _ (broken x a low) rest =
+          inr (subst (Lowest (AnyAt look m)) (sym a) (record { holds = (numberOf x, low .holds); below = λ b l. first .clean b l }), subst (λ (b : ℕ). Lowest (Broken look m b) (numberOf x)) (sym a) low)
 
   pub first-broken : PassRight (firstBroken look m)
   first-broken = pass-right (length (m .image)) 0 0 0 (omega arith) (omega arith) (omega arith) upto-none

@@ -6,16 +6,19 @@ use Rattle.marks.proofs.entry_at.Statement.{statement}
 use Rattle.marks.proofs.entry_at.Tie as tie
 
 cast-result : tie.Need-cast-result
-cast-result c = record { fits = omega (arith, c .shared-slice-known .given (2 * c .before .args .j + 1) .fits) }
+cast-result c = record { fits = omega (arith, c .shared-slice-known .given (2 * c .before .args .j) .fits, c .shared-slice-known .given (2 * c .before .args .j + 1) .fits) }
 
 mul-result : tie.Need-mul-result
-mul-result c = record { fits = omega (arith, c .shared-slice-known .given (2 * c .before .args .j + 1) .fits) }
+mul-result c = record { fits = omega (arith, c .shared-slice-known .given (2 * c .before .args .j) .fits, c .shared-slice-known .given (2 * c .before .args .j + 1) .fits) }
 
 cast-result-2 : tie.Need-cast-result-2
-cast-result-2 c = record { fits = omega (arith, c .shared-slice-known2 .given (2 * c .before .before .args .j) .fits) }
+cast-result-2 c = record { fits = omega (arith, c .shared-slice-known2 .given (2 * c .before .before .args .j) .fits, c .shared-slice-known2 .given (2 * c .before .before .args .j + 1) .fits) }
 
 add-result : tie.Need-add-result
-add-result c = record { fits = omega (arith, c .before .shared-slice-known .given (2 * c .before .before .args .j + 1) .fits, c .shared-slice-known2 .given (2 * c .before .before .args .j) .fits) }
+add-result c = record { fits = omega (arith, c .shared-slice-known2 .given (2 * c .before .before .args .j) .fits, c .shared-slice-known2 .given (2 * c .before .before .args .j + 1) .fits) }
+
+returns : tie.Need-returns
+returns c = omega arith
 
 pub entry-at-spec : {M : Type 1} → statement M
 entry-at-spec =
@@ -30,4 +33,4 @@ entry-at-spec =
     (λ c. search needs)
     cast-result-2
     add-result
-    (λ c. search needs))
+    returns)
