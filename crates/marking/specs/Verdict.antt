@@ -36,10 +36,22 @@ addressOf (Checked.BadNext a) = a
 abbrev pub InOrder : Type 0 → Type 0 → Type 0 → Type 0
 InOrder rule decides next = (rule × decides) ⊎ ((rule → ⊥) × next)
 
--- 'the lowest address', 'the lowest number', 'the first in list order'
+-- it holds of k and of nothing below
 pub record Lowest (p : ℕ → Type 0) (k : ℕ) : Type 0 where
   pub holds : p k
   pub below : (j : ℕ) → j < k → p j → ⊥
+
+-- 'the lowest such address'
+abbrev pub LowestAddress : (ℕ → Type 0) → ℕ → Type 0
+LowestAddress rule a = Lowest rule a
+
+-- 'there the lowest number'
+abbrev pub LowestNumber : (ℕ → Type 0) → ℕ → Type 0
+LowestNumber holding n = Lowest holding n
+
+-- 'the first such entry in list order'
+abbrev pub FirstInList : (ℕ → Type 0) → ℕ → Type 0
+FirstInList rule j = Lowest rule j
 
 -- it holds somewhere
 abbrev pub Some : (ℕ → Type 0) → Type 0
@@ -63,7 +75,7 @@ module _ (look : Look) (m : Chart) where
       InOrder (ImageSize m) ((n ≡ 5) × (a ≡ 0))
       (InOrder (MarkSize m) ((n ≡ 6) × (a ≡ 0))
       (InOrder (EntryCount es) ((n ≡ 7) × (a ≡ 0))
-      (InOrder (Some (MarkValue m)) ((n ≡ 8) × Lowest (MarkValue m) a)
-      (InOrder (Some (EntryNotStart m es)) ((n ≡ 9) × ((j : ℕ) × Lowest (EntryNotStart m es) j × (a ≡ entry es j)))
-      (InOrder (Some AnyAt) (Lowest AnyAt a × Lowest (Broken a) n)
+      (InOrder (Some (MarkValue m)) ((n ≡ 8) × LowestAddress (MarkValue m) a)
+      (InOrder (Some (EntryNotStart m es)) ((n ≡ 9) × ((j : ℕ) × FirstInList (EntryNotStart m es) j × (a ≡ entry es j)))
+      (InOrder (Some AnyAt) (LowestAddress AnyAt a × LowestNumber (Broken a) n)
       ((n ≡ 0) × (a ≡ 0)))))))
