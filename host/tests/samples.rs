@@ -1,7 +1,6 @@
 //! The sample's files held to its source, the source to the original, and the map to document 01's marking rules.
 
-use host::listing::window;
-use host::original::{disas, Instruction, OpCode, Operand};
+use host::marking::Map;
 use host::sample::source::Source;
 use host::sample::{entries, hold_texts, image, marks, printed};
 use std::fs;
@@ -106,120 +105,17 @@ fn bytes_add_up_to_zero() {
     assert_eq!(sum % 0x100, 0);
 }
 
-/// Document 01's map check at origin 0, read plainly: the number, and the address where it holds.
+/// What the plain reading of document 01's rules says at origin 0: the number, and the address where it holds.
 fn judged(image: &[u8], marks: &[u8], entries: &[u8]) -> (u8, usize) {
-    if image.is_empty() || image.len() > 0x1_0000 {
-        return (5, 0);
-    }
-    if marks.len() != image.len() {
-        return (6, 0);
-    }
-    if entries.is_empty() || entries.len() % 2 == 1 || entries.len() > 2 * 256 {
-        return (7, 0);
-    }
-    if let Some(at) = marks.iter().position(|&mark| mark > 2) {
-        return (8, at);
-    }
-    for pair in entries.chunks(2) {
-        let entry = u16::from_le_bytes([pair[0], pair[1]]) as usize;
-        if marks.get(entry) != Some(&1) {
-            return (9, entry);
-        }
-    }
-    let numbers = (0..image.len()).map(|at| (number_at(image, marks, at), at));
-    let mut holding = numbers.filter(|(number, _)| *number != 0);
-    holding.next().unwrap_or((0, 0))
-}
-
-/// The lowest of 10 to 13 that holds at a byte, or 0.
-fn number_at(image: &[u8], marks: &[u8], at: usize) -> u8 {
-    match marks[at] {
-        0 => 0,
-        1 => number_at_start(image, marks, at),
-        _ if is_covered(image, marks, at) => 0,
-        _ => 12,
-    }
-}
-
-fn number_at_start(image: &[u8], marks: &[u8], at: usize) -> u8 {
-    let Some(record) = disas(window(image, at)) else {
-        return 10;
+    let map = Map {
+        image,
+        origin: 0,
+        marks,
+        entries,
     };
-    let mut later = at + 1..at + record.length as usize;
-    let mut next = next_places(at as u16, &record).into_iter();
-    if later.any(|place| marks.get(place) != Some(&2)) {
-        11
-    } else if next.any(|place| marks.get(place as usize) != Some(&1)) {
-        13
-    } else {
-        0
-    }
-}
-
-/// Whether the record of a start before this byte, three bytes at most, has it.
-fn is_covered(image: &[u8], marks: &[u8], at: usize) -> bool {
-    let mut starts = (at.saturating_sub(3)..at).filter(|&start| marks[start] == 1);
-    starts.any(|start| {
-        let record = disas(window(image, start));
-        record.is_some_and(|record| start + record.length as usize > at)
-    })
-}
-
-fn next_places(at: u16, record: &OpCode) -> Vec<u16> {
-    use Instruction::*;
-    let mut places = vec![];
-    if goes_on(record) {
-        places.push(at.wrapping_add(record.length as u16));
-    }
-    match record.ins {
-        JP | JR | DJNZ | CALL | RST => {
-            let operands = [record.op1, record.op2].into_iter().flatten();
-            places.extend(operands.filter_map(|operand| target(at, operand)));
-        }
-        LDIR | LDDR | CPIR | CPDR | INIR | INDR | OTIR | OTDR => places.push(at),
-        _ => {}
-    }
-    places
-}
-
-/// Whether the place after the row is a next place.
-fn goes_on(record: &OpCode) -> bool {
-    match record.ins {
-        Instruction::JP | Instruction::JR | Instruction::RET => {
-            matches!(record.op1, Some(Operand::FlagCondition(_)))
-        }
-        Instruction::RETI | Instruction::RETN => false,
-        _ => true,
-    }
-}
-
-/// Where an operand of a jump or call leads; a condition or a register leads nowhere.
-fn target(at: u16, operand: Operand) -> Option<u16> {
-    match operand {
-        Operand::Imm16(place) => Some(place),
-        Operand::Imm8(place) => Some(place as u16),
-        Operand::RelAddr(way) => Some(at.wrapping_add_signed(way)),
-        _ => None,
-    }
-}
-
-/// Image, marks, number and address.
-type Map = (&'static [u8], &'static [u8], (u8, usize));
-
-/// The reading itself against document 01's maps; the entry is 0.
-#[test]
-fn starred_maps() {
-    let maps: [Map; 7] = [
-        (&[0x18, 0xFE], &[1, 2], (0, 0)),
-        (&[0x18, 0xFF], &[1, 2], (13, 0)),
-        (&[0xC9], &[1], (0, 0)),
-        (&[0x00], &[1], (13, 0)),
-        (&[0xC9, 0x00], &[1, 2], (12, 1)),
-        (&[0x3E, 0x05, 0xC9], &[1, 1, 1], (11, 0)),
-        (&[0xDD, 0x23, 0xC9], &[1, 2, 1], (10, 0)),
-    ];
-    for (image, marks, expected) in maps {
-        assert_eq!(judged(image, marks, &[0, 0]), expected, "{image:02X?}");
+    match map.judged() {
+        Ok(()) => (0, 0),
+        Err(refused) => (refused.refusal as u8, refused.address as usize),
     }
 }
 
