@@ -9,7 +9,7 @@ use crate::pages::{code_at, row, ED_BEHIND, PAGES};
 const PIECES: usize = 16;
 
 /// The bytes of the row that four bytes begin with; four are never refused.
-fn length(bytes: &[u8]) -> usize {
+pub fn length(bytes: &[u8]) -> usize {
     let opcode = disas(&bytes[..LARGEST_INPUT]).expect("a record of four bytes");
     opcode.length as usize
 }

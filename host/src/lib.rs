@@ -15,6 +15,7 @@ pub mod images;
 pub mod inputs;
 pub mod list_rows;
 pub mod listing;
+pub mod maps;
 pub mod marking;
 pub mod mixed;
 pub mod outcome;

@@ -8,10 +8,11 @@ use crate::original::OpCode;
 use Refusal::*;
 
 /// The most entries, and the bytes of each.
-const ENTRIES: usize = 256;
+pub const ENTRIES: usize = 256;
 pub const PAIR: usize = 2;
 
-/// The marks; 0 is data.
+/// The marks.
+pub const DATA: u8 = 0;
 pub const START: u8 = 1;
 pub const INSIDE: u8 = 2;
 
@@ -40,13 +41,18 @@ impl From<Refusal> for Refused {
 }
 
 impl Map<'_> {
+    /// What the map check answers: of all that holds the first.
+    pub fn judged(&self) -> Result<(), Refused> {
+        self.holding().next().map_or(Ok(()), Err)
+    }
+
     /// 5, 6, 7, 8, 9 in that order, then the lowest address where any of 10 to 13 holds and there the lowest number. For 8
     /// the lowest such address, for 9 the first such entry in list order.
-    pub fn judged(&self) -> Result<(), Refused> {
+    pub fn holding(&self) -> impl Iterator<Item = Refused> + '_ {
         let sizes = self.wrong_sizes();
-        let places = self.wrong_marks().chain(self.wrong_entries());
-        let first = sizes.chain(places).chain(self.wrong_rows()).next();
-        first.map_or(Ok(()), Err)
+        let marks = sizes.chain(self.wrong_marks());
+        let entries = marks.chain(self.wrong_entries());
+        entries.chain(self.wrong_rows())
     }
 
     /// 5 to 7, which have no address.

@@ -19,4 +19,14 @@ impl Mixed {
     pub fn bytes(&mut self, count: usize) -> Vec<u8> {
         (0..count).map(|_| self.byte()).collect()
     }
+
+    /// A number below a count of at most 65,536.
+    pub fn below(&mut self, count: usize) -> usize {
+        let mixed = u16::from_be_bytes([self.byte(), self.byte()]);
+        (mixed as usize * count) >> 16
+    }
+
+    pub fn one_of<T: Copy>(&mut self, some: &[T]) -> T {
+        some[self.below(some.len())]
+    }
 }
