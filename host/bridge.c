@@ -1,7 +1,7 @@
 // The bridge between the comparison and the exported functions, where the machine is no x86-64: compiled by the kit for
 // x86-64, with no header at hand, and run under the kit's emulator. It reads calls on standard input, as
-// `Calls::request` writes them, and writes for each the answer number, the lent count, the lent number of bytes passed and
-// the lent buffer as they are then.
+// `Calls::request` writes them, and writes for each the answer number, whether a map was altered, the lent count, number of
+// bytes passed and address, and the lent buffer as they are then.
 typedef unsigned char u8;
 typedef unsigned short u16;
 typedef unsigned int u32;
@@ -14,21 +14,30 @@ extern u8 z80_record(const u8 *ins, usize ins_len, u8 *out, usize out_len);
 extern u8 z80_text(const u8 *ins, usize ins_len, u8 *out, usize out_len, u32 *count);
 extern u8 z80_full_text(const u8 *ins, usize ins_len, u8 *out, usize out_len, u32 *count);
 extern u8 z80_row(const u8 *image, usize image_len, u16 origin, u16 address, u8 *out, usize out_len, u32 *count, u32 *passed);
+extern u8 z80_map_check(const u8 *image, usize image_len, u16 origin, const u8 *marks, usize marks_len, const u8 *entries,
+                        usize entries_len, u32 *address);
 
 // The functions by the numbers of src/function.rs and src/calls.rs.
-enum { RECORD, TEXT, FULL_TEXT, ROW };
-enum { NUMBER = 4, LOOKED_AT = 64, OUTCOME = 1 + NUMBER + NUMBER + LOOKED_AT };
-enum { LONGEST = 65537, BEHIND = 4, PIPE = 65536 };
+enum { RECORD, TEXT, FULL_TEXT, ROW, MAP };
+enum { NUMBER = 4, NUMBERS = 3, LOOKED_AT = 64, OUTCOME = 2 + NUMBERS * NUMBER + LOOKED_AT };
+enum { LONGEST = 65537, LONGEST_PART = 2 * LONGEST + 1, BEHIND = 4, PIPE = 65536 };
 
-// What a call is about: the bytes of a row, or an image and where it is looked at.
+// What a call is about: the bytes of a row, an image and where it is looked at, or the map that was read last.
 struct about {
     u8 function;
     usize len;
     u16 origin, address;
 };
 
+// A part of a map, with what stands behind it, as src/laid.rs has it: as it is lent, and as it was.
+struct part {
+    usize len;
+    u8 lent[LONGEST_PART + BEHIND], kept[LONGEST_PART + BEHIND];
+};
+
 static u8 asked[PIPE], said[PIPE], bytes[LONGEST + BEHIND], rooms[256];
 static usize asked_at, asked_end, said_end, sizes;
+static struct part image, marks, entries;
 
 // The next n bytes asked; 0 where the input ends before them.
 static int get(u8 *to, usize n) {
@@ -55,11 +64,23 @@ static int get_number(usize *to, usize n) {
     return 1;
 }
 
+static int get_rooms(void) {
+    return get_number(&sizes, 1) && get(rooms, sizes);
+}
+
 // So many bytes, zeros behind them, and the rooms.
 static int get_bytes_and_rooms(usize len) {
     if (len > LONGEST || !get(bytes, len)) return 0;
     for (usize i = 0; i < BEHIND; i++) bytes[len + i] = 0;
-    return get_number(&sizes, 1) && get(rooms, sizes);
+    return get_rooms();
+}
+
+// A part of a map behind its count, and so many times a byte behind it.
+static int get_part(struct part *part, u8 behind) {
+    if (!get_number(&part->len, 4) || part->len > LONGEST_PART || !get(part->kept, part->len)) return 0;
+    for (usize i = 0; i < BEHIND; i++) part->kept[part->len + i] = behind;
+    for (usize i = 0; i < part->len + BEHIND; i++) part->lent[i] = part->kept[i];
+    return 1;
 }
 
 // Writes out what is said so far.
@@ -78,26 +99,46 @@ static void put_number(u8 *to, u32 number) {
 }
 
 // An empty slice passes as a null pointer, through which nothing may be read or written.
-static u8 call(const struct about *a, u8 *out, usize room, u32 *count, u32 *passed) {
-    const u8 *ins = a->len ? bytes : 0;
+static const u8 *slice(const u8 *from, usize len) {
+    return len ? from : 0;
+}
+
+static u8 check(u16 origin, u32 *address) {
+    const u8 *i = slice(image.lent, image.len), *m = slice(marks.lent, marks.len), *e = slice(entries.lent, entries.len);
+    return z80_map_check(i, image.len, origin, m, marks.len, e, entries.len, address);
+}
+
+// Whether a part of the map, or what stands behind it, is not as it was.
+static int is_altered(const struct part *part) {
+    for (usize i = 0; i < part->len + BEHIND; i++) {
+        if (part->lent[i] != part->kept[i]) return 1;
+    }
+    return 0;
+}
+
+static u8 call(const struct about *a, u8 *out, usize room, u32 *count, u32 *passed, u32 *address) {
+    const u8 *ins = slice(bytes, a->len);
     if (!room) out = 0;
     switch (a->function) {
     case RECORD: return z80_record(ins, a->len, out, room);
     case TEXT: return z80_text(ins, a->len, out, room, count);
     case FULL_TEXT: return z80_full_text(ins, a->len, out, room, count);
-    default: return z80_row(ins, a->len, a->origin, a->address, out, room, count, passed);
+    case ROW: return z80_row(ins, a->len, a->origin, a->address, out, room, count, passed);
+    default: return check(a->origin, address);
     }
 }
 
 // The k-th call, with numbers and buffer filled as by `filled` of src/outcome.rs.
 static int answer(const struct about *a, usize room, usize k) {
     if (room > LOOKED_AT || (PIPE - said_end < OUTCOME && !flush())) return 0;
-    u8 *number = said + said_end, *lent = number + 1 + NUMBER + NUMBER;
-    u32 count = 0xA5A50000 + k, passed = 0x5A5A0000 + k;
+    u8 *number = said + said_end, *altered = number + 1, *numbers = number + 2, *lent = numbers + NUMBERS * NUMBER;
+    u32 count = 0xA5A50000 + k, passed = 0x5A5A0000 + k, address = 0xC3C30000 + k;
     for (usize place = 0; place < LOOKED_AT; place++) lent[place] = 31 * k + 7 * place + 1;
-    *number = call(a, lent, room, &count, &passed);
-    put_number(number + 1, count);
-    put_number(number + 1 + NUMBER, passed);
+    *number = call(a, lent, room, &count, &passed, &address);
+    *altered = a->function == MAP && (is_altered(&image) || is_altered(&marks) || is_altered(&entries));
+    put_number(numbers, count);
+    put_number(numbers + NUMBER, passed);
+    put_number(numbers + 2 * NUMBER, address);
     said_end += OUTCOME;
     return 1;
 }
@@ -134,10 +175,27 @@ static int answer_places(void) {
     return 1;
 }
 
+// The check of a map: starts stand behind its marks, and entries outside behind those that it has.
+static int answer_map(void) {
+    usize origin;
+    if (!get_number(&origin, 2) || !get_part(&image, 0) || !get_part(&marks, 1) || !get_part(&entries, 0xFF)) return 0;
+    struct about a = {MAP, 0, origin, 0};
+    return get_rooms() && answer_rooms(&a, 0);
+}
+
+static int answer_next(u8 function) {
+    switch (function) {
+    case RECORD: case TEXT: case FULL_TEXT: return answer_inputs(function);
+    case ROW: return answer_places();
+    case MAP: return answer_map();
+    default: return 0;
+    }
+}
+
 int main(void) {
     u8 function;
     while (get(&function, 1)) {
-        if (function > ROW || !(function == ROW ? answer_places() : answer_inputs(function))) return 1;
+        if (!answer_next(function)) return 1;
     }
     return flush() ? 0 : 1;
 }

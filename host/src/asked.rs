@@ -1,15 +1,19 @@
 //! What an exported function is asked, and what the original has it write.
 
-use crate::answer::Refusal;
 use crate::function::Function;
 use crate::listing::Place;
+use crate::marking::{Map, Refused};
 use std::fmt;
 
-/// A function of a row's bytes with those, or `z80_row` with its place.
+/// A function of a row's bytes with those, `z80_row` with its place, or `z80_map_check` with its map.
 pub enum Asked<'a> {
     Bytes(Function, Vec<u8>),
     Row(Place<'a>),
+    Map(Map<'a>),
 }
+
+/// So many bytes of each part of a map are shown.
+const SHOWN: usize = 256;
 
 /// What is written where there is room for it: bytes to the lent buffer, and the bytes passed where the function says them.
 pub struct Written {
@@ -17,8 +21,8 @@ pub struct Written {
     pub passed: usize,
 }
 
-/// What is written, or the refusal that comes before the room is looked at.
-pub type Said = Result<Written, Refusal>;
+/// What is written, or the refusal that comes before the room is looked at. A map check writes no bytes.
+pub type Said = Result<Written, Refused>;
 
 impl Asked<'_> {
     pub fn said(&self) -> Said {
@@ -27,6 +31,10 @@ impl Asked<'_> {
             Asked::Row(place) => {
                 let row = place.row()?;
                 (row.line, row.passed)
+            }
+            Asked::Map(map) => {
+                map.judged()?;
+                (vec![], 0)
             }
         };
         Ok(Written { bytes, passed })
@@ -45,6 +53,22 @@ impl fmt::Display for Asked<'_> {
                 write!(f, "Row at {:04X}, {there:02X?}, ", place.address)?;
                 write!(f, "image of {} bytes from {origin:04X} on", image.len())
             }
+            Asked::Map(map) => {
+                write!(f, "Map from {:04X} on, ", map.origin)?;
+                write!(
+                    f,
+                    "image {}, marks {}, ",
+                    shown(map.image),
+                    shown(map.marks)
+                )?;
+                write!(f, "entries {}", shown(map.entries))
+            }
         }
     }
+}
+
+/// How many bytes, and the first of them.
+fn shown(bytes: &[u8]) -> String {
+    let first = &bytes[..bytes.len().min(SHOWN)];
+    format!("of {} {first:02X?}", bytes.len())
 }

@@ -3,6 +3,7 @@
 use crate::asked::Asked;
 use crate::function::Function;
 use crate::listing::Place;
+use crate::maps::Drawn;
 
 /// All that is asked about, in each of the rooms.
 pub struct Calls {
@@ -13,6 +14,7 @@ pub struct Calls {
 pub enum About {
     Inputs(Inputs),
     Places(Places),
+    Map(Drawn),
 }
 
 /// Inputs of one function that differ in their last bytes alone: the fixed bytes, then every choice of 0 to 2 free ones.
@@ -22,8 +24,9 @@ pub struct Inputs {
     pub fixed: Vec<u8>,
 }
 
-/// The number that the bridge knows `z80_row` by.
+/// The numbers that the bridge knows `z80_row` and `z80_map_check` by.
 const ROW: u8 = 3;
+const MAP: u8 = 4;
 
 /// So many zeros stand behind an image, the same on every machine: where they are read, a row is no longer Short.
 const BEHIND: usize = 4;
@@ -37,11 +40,20 @@ pub struct Places {
 }
 
 impl Calls {
+    /// The check of a map, to which no buffer is lent.
+    pub fn of_map(drawn: Drawn) -> Calls {
+        Calls {
+            rooms: vec![0],
+            about: About::Map(drawn),
+        }
+    }
+
     /// What is asked, in order.
     pub fn asked(&self) -> Box<dyn Iterator<Item = Asked<'_>> + '_> {
         match &self.about {
             About::Inputs(inputs) => Box::new(inputs.asked()),
             About::Places(places) => Box::new(places.asked()),
+            About::Map(drawn) => Box::new([Asked::Map(drawn.map())].into_iter()),
         }
     }
 
@@ -50,6 +62,7 @@ impl Calls {
         let about = match &self.about {
             About::Inputs(inputs) => inputs.request(),
             About::Places(places) => places.request(),
+            About::Map(drawn) => map_request(drawn),
         };
         [&about, &[self.rooms.len() as u8][..], &self.rooms].concat()
     }
@@ -106,4 +119,15 @@ impl Places {
         request.extend(image);
         request
     }
+}
+
+/// Function, origin, and each part of the map behind its count.
+fn map_request(drawn: &Drawn) -> Vec<u8> {
+    let mut request = vec![MAP];
+    request.extend(drawn.origin.to_le_bytes());
+    for part in [&drawn.image, &drawn.marks, &drawn.entries] {
+        request.extend((part.len() as u32).to_le_bytes());
+        request.extend(part);
+    }
+    request
 }

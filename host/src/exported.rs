@@ -3,14 +3,17 @@
 #[cfg(not(linked))]
 pub use bridge::Exported;
 #[cfg(linked)]
-pub use linked::{z80_full_text, z80_record, z80_row, z80_text, Exported};
+pub use linked::{z80_full_text, z80_map_check, z80_record, z80_row, z80_text, Exported};
 
 #[cfg(linked)]
 mod linked {
     use crate::asked::Asked;
     use crate::function::Function;
+    use crate::laid::Laid;
     use crate::listing::Place;
+    use crate::marking::Map;
     use crate::outcome::{Call, Lent, Outcome};
+    use crate::runs::Run;
     use std::io;
 
     mod sys {
@@ -40,6 +43,16 @@ mod linked {
                 out_len: usize,
                 count: *mut u32,
                 passed: *mut u32,
+            ) -> u8;
+            pub fn z80_map_check(
+                image: *const u8,
+                image_len: usize,
+                origin: u16,
+                marks: *const u8,
+                marks_len: usize,
+                entries: *const u8,
+                entries_len: usize,
+                address: *mut u32,
             ) -> u8;
         }
     }
@@ -83,10 +96,41 @@ mod linked {
         }
     }
 
+    /// Whether a map keeps the marking rules: the number, and in `address` where that holds.
+    pub fn z80_map_check(map: &Map, address: &mut u32) -> u8 {
+        let Map {
+            image,
+            origin,
+            marks,
+            entries,
+        } = *map;
+        unsafe {
+            sys::z80_map_check(
+                image.as_ptr(),
+                image.len(),
+                origin,
+                marks.as_ptr(),
+                marks.len(),
+                entries.as_ptr(),
+                entries.len(),
+                address,
+            )
+        }
+    }
+
+    /// The same, and whether the map was altered.
+    fn checked(map: &Map, address: &mut u32, altered: &mut bool) -> u8 {
+        let laid = Laid::out(map);
+        let number = z80_map_check(&laid.map(), address);
+        *altered = laid != Laid::out(map);
+        number
+    }
+
     pub struct Exported;
 
     impl Exported {
-        pub fn start(_: &[String]) -> io::Result<Exported> {
+        /// No words are needed, and no calls ahead of time.
+        pub fn start(_: &[String], _: impl FnOnce() -> Run) -> io::Result<Exported> {
             Ok(Exported)
         }
 
@@ -95,16 +139,23 @@ mod linked {
             let Lent {
                 count,
                 passed,
+                address,
                 buffer,
             } = &mut lent;
             let out = &mut buffer[..call.room];
+            let mut map_altered = false;
             let number = match call.asked {
                 Asked::Bytes(Function::Record, ins) => z80_record(ins, out),
                 Asked::Bytes(Function::Text, ins) => z80_text(ins, out, count),
                 Asked::Bytes(Function::FullText, ins) => z80_full_text(ins, out, count),
                 Asked::Row(place) => z80_row(place, out, count, passed),
+                Asked::Map(map) => checked(map, address, &mut map_altered),
             };
-            Ok(Outcome { number, lent })
+            Ok(Outcome {
+                number,
+                lent,
+                map_altered,
+            })
         }
 
         pub fn finish(self) -> io::Result<()> {
@@ -116,12 +167,12 @@ mod linked {
 #[cfg(not(linked))]
 mod bridge {
     use crate::outcome::{Call, Lent, Outcome};
-    use crate::runs::groups;
+    use crate::runs::Run;
     use std::io::{self, BufReader, BufWriter, Read, Write};
     use std::process::{Child, ChildStdin, ChildStdout, Command, Stdio};
     use std::thread;
 
-    /// The bridge, with the outcomes of all calls of `groups` to come from it.
+    /// The bridge, with the outcomes of all calls that it was asked for to come from it.
     pub struct Exported {
         child: Child,
         outcomes: BufReader<ChildStdout>,
@@ -130,7 +181,10 @@ mod bridge {
     impl Exported {
         /// The words are the command that runs the bridge. A thread asks for the calls, so that neither side waits on a
         /// full pipe.
-        pub fn start(words: &[String]) -> io::Result<Exported> {
+        pub fn start<F>(words: &[String], calls: F) -> io::Result<Exported>
+        where
+            F: FnOnce() -> Run + Send + 'static,
+        {
             let (program, rest) = words
                 .split_first()
                 .ok_or(io::Error::other("no command for the bridge"))?;
@@ -142,23 +196,28 @@ mod bridge {
             let mut child = command.spawn()?;
             let requests = child.stdin.take().expect("piped");
             let outcomes = child.stdout.take().expect("piped");
-            thread::spawn(|| ask(requests));
+            thread::spawn(|| ask(requests, calls()));
             Ok(Exported {
                 child,
                 outcomes: BufReader::with_capacity(1 << 16, outcomes),
             })
         }
 
-        /// The outcome of the next call of `groups`, which is the one given: number, count and bytes passed, low byte first,
-        /// buffer.
+        /// The outcome of the next call asked for, which is the one given: number, whether a map was altered, count, bytes
+        /// passed and address, low byte first, buffer.
         pub fn call(&mut self, _: &Call) -> io::Result<Outcome> {
-            let [number] = self.next()?;
+            let [number, altered] = self.next()?;
             let lent = Lent {
                 count: u32::from_le_bytes(self.next()?),
                 passed: u32::from_le_bytes(self.next()?),
+                address: u32::from_le_bytes(self.next()?),
                 buffer: self.next()?,
             };
-            Ok(Outcome { number, lent })
+            Ok(Outcome {
+                number,
+                lent,
+                map_altered: altered != 0,
+            })
         }
 
         fn next<const N: usize>(&mut self) -> io::Result<[u8; N]> {
@@ -177,12 +236,10 @@ mod bridge {
         }
     }
 
-    fn ask(requests: ChildStdin) -> io::Result<()> {
+    fn ask(requests: ChildStdin, run: Run) -> io::Result<()> {
         let mut requests = BufWriter::new(requests);
-        for (_, run) in groups().into_iter().flat_map(|group| group.runs) {
-            for calls in run {
-                requests.write_all(&calls.request())?;
-            }
+        for calls in run {
+            requests.write_all(&calls.request())?;
         }
         requests.flush()
     }

@@ -7,11 +7,12 @@ use crate::function::Function;
 /// The bytes that are looked at: more than the largest room lent. Those past a room must stay as they were.
 pub const LOOKED_AT: usize = 64;
 
-/// What a function may write to. One that has no count, or passes no bytes, must leave that number as it was.
+/// What a function may write to. One that has no count, passes no bytes or tells no address must leave that number as it was.
 #[derive(Debug, PartialEq, Eq, Clone, Copy)]
 pub struct Lent {
     pub count: u32,
     pub passed: u32,
+    pub address: u32,
     pub buffer: [u8; LOOKED_AT],
 }
 
@@ -22,10 +23,12 @@ pub struct Call<'a> {
     pub before: Lent,
 }
 
+/// What a call came to. A map is only read, so it must be found as it was.
 #[derive(Debug, PartialEq, Eq, Clone, Copy)]
 pub struct Outcome {
     pub number: u8,
     pub lent: Lent,
+    pub map_altered: bool,
 }
 
 /// What is lent to the k-th call of some: other numbers, none of them ever right, and another pattern for each.
@@ -33,28 +36,35 @@ pub fn filled(k: usize) -> Lent {
     Lent {
         count: 0xA5A5_0000 + k as u32,
         passed: 0x5A5A_0000 + k as u32,
+        address: 0xC3C3_0000 + k as u32,
         buffer: std::array::from_fn(|place| (31 * k + 7 * place + 1) as u8),
     }
 }
 
-/// Where the room holds what the original says, that at the buffer's front and its numbers; else zeros and a refusal.
+/// Where the room holds what the original says, that at the buffer's front and its numbers; else zeros and a refusal, with
+/// its address where the function tells one.
 pub fn expected(call: &Call, said: &Said) -> Outcome {
     let mut lent = call.before;
-    let (number, count, passed) = match said {
+    let (number, count, passed, address) = match said {
         Ok(written) if written.bytes.len() <= call.room => {
             let count = written.bytes.len();
             lent.buffer[..count].copy_from_slice(&written.bytes);
-            (0, count, written.passed)
+            (0, count, written.passed, 0)
         }
-        Ok(_) => (Refusal::NoRoom as u8, 0, 0),
-        Err(refusal) => (*refusal as u8, 0, 0),
+        Ok(_) => (Refusal::NoRoom as u8, 0, 0, 0),
+        Err(refused) => (refused.refusal as u8, 0, 0, refused.address),
     };
     match call.asked {
         Asked::Bytes(Function::Record, _) => (),
         Asked::Bytes(_, _) => lent.count = count as u32,
         Asked::Row(_) => (lent.count, lent.passed) = (count as u32, passed as u32),
+        Asked::Map(_) => lent.address = address as u32,
     }
-    Outcome { number, lent }
+    Outcome {
+        number,
+        lent,
+        map_altered: false,
+    }
 }
 
 /// Where a call's outcome is not the expected one: the call and both outcomes.
@@ -66,19 +76,22 @@ pub fn difference(call: &Call, expected: Outcome, found: Outcome) -> Option<Stri
     })
 }
 
-fn shown(Outcome { number, lent }: Outcome) -> String {
-    let Lent {
-        count,
-        passed,
-        buffer,
-    } = lent;
-    format!("{number}, count {count}, passed {passed}, {buffer:02X?}")
+fn shown(outcome: Outcome) -> String {
+    let Outcome { number, lent, .. } = outcome;
+    let numbers = format!("count {}, passed {}", lent.count, lent.passed);
+    let altered = match outcome.map_altered {
+        true => ", map altered",
+        false => "",
+    };
+    let (address, buffer) = (lent.address, lent.buffer);
+    format!("{number}, {numbers}, address {address:04X}{altered}, {buffer:02X?}")
 }
 
 #[cfg(test)]
 mod tests {
     use super::*;
     use crate::listing::Place;
+    use crate::marking::Map;
     use Function::{FullText, Record, Text};
 
     /// A row at the front of an image.
@@ -90,11 +103,27 @@ mod tests {
         })
     }
 
-    /// Each function on the same bytes; for a row they are the image.
-    fn each(bytes: &[u8]) -> [Asked<'_>; 4] {
+    /// A map whose entry is the image's front.
+    fn marked<'a>(image: &'a [u8], marks: &'a [u8]) -> Asked<'a> {
+        Asked::Map(Map {
+            image,
+            origin: 0xABCD,
+            marks,
+            entries: &[0xCD, 0xAB],
+        })
+    }
+
+    /// Each function on the same bytes; for a row and for a map they are the image.
+    fn each(bytes: &[u8]) -> [Asked<'_>; 5] {
         let [record, text, full_text] =
             [Record, Text, FullText].map(|function| Asked::Bytes(function, bytes.to_vec()));
-        [record, text, full_text, front(bytes)]
+        [
+            record,
+            text,
+            full_text,
+            front(bytes),
+            marked(bytes, &[1, 2]),
+        ]
     }
 
     fn outcome(asked: &Asked, room: usize) -> Outcome {
@@ -133,6 +162,9 @@ mod tests {
         assert!(is_seen(|found| found.lent.count ^= 1 << 31));
         assert!(is_seen(|found| found.lent.passed += 1));
         assert!(is_seen(|found| found.lent.passed ^= 1 << 31));
+        assert!(is_seen(|found| found.lent.address += 1));
+        assert!(is_seen(|found| found.lent.address ^= 1 << 31));
+        assert!(is_seen(|found| found.map_altered = true));
         for place in 0..LOOKED_AT {
             assert!(is_seen(|found| found.lent.buffer[place] ^= 1));
         }
@@ -141,12 +173,12 @@ mod tests {
     /// A call that is Done in just the room for it, with these bytes and numbers; and its refusal in a room one smaller.
     fn fits(asked: &Asked, bytes: &[u8], numbers: (u32, u32), refused_numbers: (u32, u32)) {
         let before = filled(5);
-        let Outcome { number, lent } = outcome(asked, bytes.len());
+        let Outcome { number, lent, .. } = outcome(asked, bytes.len());
         let (front, behind) = lent.buffer.split_at(bytes.len());
         assert_eq!((number, (lent.count, lent.passed)), (0, numbers));
         assert_eq!(front, bytes);
         assert_eq!(behind, &before.buffer[bytes.len()..]);
-        let Outcome { number, lent } = outcome(asked, bytes.len() - 1);
+        let Outcome { number, lent, .. } = outcome(asked, bytes.len() - 1);
         assert_eq!((number, (lent.count, lent.passed)), (4, refused_numbers));
         assert_eq!(lent.buffer, before.buffer);
     }
@@ -195,14 +227,32 @@ mod tests {
                 address,
             };
             let found = outcome(&Asked::Row(place), 0);
-            let (count, passed) = (0, 0);
-            let buffer = filled(5).buffer;
             let lent = Lent {
-                count,
-                passed,
-                buffer,
+                count: 0,
+                passed: 0,
+                ..filled(5)
             };
-            assert_eq!(found, Outcome { number, lent });
+            assert_eq!((found.number, found.lent), (number, lent));
+        }
+    }
+
+    /// Number and address of a map check, which leaves all else that is lent as it was.
+    #[test]
+    fn maps_by_hand() {
+        let cases: [(&[u8], &[u8], u8, u32); 5] = [
+            (&[0x18, 0xFE], &[1, 2], 0, 0),
+            (&[0x18, 0xFF], &[1, 2], 13, 0xABCD),
+            (&[0xC9, 0x00], &[1, 2], 12, 0xABCE),
+            (&[0xC9], &[1, 1], 6, 0),
+            (&[0xC9, 0xC9], &[0, 1], 9, 0xABCD),
+        ];
+        for (image, marks, number, address) in cases {
+            let found = outcome(&marked(image, marks), 0);
+            let lent = Lent {
+                address,
+                ..filled(5)
+            };
+            assert_eq!((found.number, found.lent), (number, lent));
         }
     }
 }

@@ -73,10 +73,11 @@ fn text_row(function: Function, ins: &[u8], room: usize) -> Row {
         before: Lent {
             count: 0,
             passed: 0,
+            address: 0,
             buffer: [b'.'; LOOKED_AT],
         },
     };
-    let Outcome { number, lent } = expected(&call, &asked.said());
+    let Outcome { number, lent, .. } = expected(&call, &asked.said());
     let numbers = format!("{}{number} {} ", shown(ins), lent.count);
     Row {
         request: request(function, room, ins),

@@ -2,22 +2,27 @@
 
 use crate::calls::{About, Calls, Inputs};
 use crate::function::{Function, TEXT_MAX};
+use crate::map_runs::map_runs;
 use crate::mixed::Mixed;
 use crate::pages::{edged, ED_BEHIND, PAGES};
 use crate::row_runs::row_runs;
-use crate::tally::{Met, OF_BYTES, OF_ROWS};
+use crate::tally::{Met, OF_BYTES, OF_MAPS, OF_ROWS};
 
 const RANDOM_INPUTS: usize = 1_000_000;
+
+/// So many maps at least come to each answer of the map check.
+const OF_EACH_ANSWER: usize = 2_000;
 
 /// The pages that have their codes in the first two bytes.
 const SHALLOW: usize = 5;
 
 pub type Run = Box<dyn Iterator<Item = Calls>>;
 
-/// The runs of one function, and what their answers must meet.
+/// The runs of one function, what their answers must meet, and how often.
 pub struct Group {
     pub function: &'static str,
     pub to_meet: &'static [Met],
+    pub at_least: usize,
     pub runs: Vec<(&'static str, Run)>,
 }
 
@@ -136,16 +141,28 @@ fn text_runs(function: Function) -> Vec<(&'static str, Run)> {
 }
 
 /// All runs, by function.
-pub fn groups() -> [Group; 4] {
+pub fn groups() -> [Group; 5] {
     let group = |function, to_meet, runs| Group {
         function,
         to_meet,
+        at_least: 1,
         runs,
+    };
+    let maps = Group {
+        at_least: OF_EACH_ANSWER,
+        ..group("map check", &OF_MAPS, map_runs())
     };
     [
         group("record", &OF_BYTES, record_runs()),
         group("text", &OF_BYTES, text_runs(Function::Text)),
         group("full text", &OF_BYTES, text_runs(Function::FullText)),
         group("row", &OF_ROWS, row_runs()),
+        maps,
     ]
+}
+
+/// The calls of all groups, one behind another.
+pub fn all_calls() -> Run {
+    let runs = groups().into_iter().flat_map(|group| group.runs);
+    Box::new(runs.flat_map(|(_, run)| run))
 }

@@ -1,5 +1,6 @@
 //! What the compared calls of a function came to.
 
+use crate::answer::ANSWERS;
 use crate::asked::Asked;
 use crate::outcome::{difference, Call, Outcome};
 
@@ -15,21 +16,20 @@ pub enum Met {
     Long,
     NoRoom,
     ImageSize,
+    MarkSize,
+    EntryCount,
+    MarkValue,
+    EntryNotStart,
+    Unfinished,
+    Clipped,
+    Stray,
+    BadNext,
     ShortRow,
 }
 
 use Met::*;
 
-/// How they are printed, in the same order.
-const NAMES: [&str; 7] = [
-    "0 Done",
-    "1 Nothing",
-    "2 Short",
-    "3 Long",
-    "4 NoRoom",
-    "5 ImageSize",
-    "Short rows among the Done",
-];
+const KINDS: usize = ANSWERS.len() + 1;
 
 /// What the functions of a row's bytes may answer.
 pub const OF_BYTES: [Met; 5] = [Done, Nothing, Short, Long, NoRoom];
@@ -37,11 +37,25 @@ pub const OF_BYTES: [Met; 5] = [Done, Nothing, Short, Long, NoRoom];
 /// What `z80_row` may answer.
 pub const OF_ROWS: [Met; 5] = [Done, Nothing, NoRoom, ImageSize, ShortRow];
 
+/// What `z80_map_check` may answer.
+pub const OF_MAPS: [Met; 10] = [
+    Done,
+    ImageSize,
+    MarkSize,
+    EntryCount,
+    MarkValue,
+    EntryNotStart,
+    Unfinished,
+    Clipped,
+    Stray,
+    BadNext,
+];
+
 #[derive(Default)]
 pub struct Tally {
     pub calls: usize,
     pub differing: usize,
-    met: [usize; NAMES.len()],
+    met: [usize; KINDS],
 }
 
 impl Tally {
@@ -57,15 +71,18 @@ impl Tally {
         (self.differing <= SHOWN).then_some(difference)
     }
 
-    /// Those of some answers that no call came to.
-    pub fn missing(&self, to_meet: &[Met]) -> Vec<Met> {
-        let unmet = |met: &Met| self.met[*met as usize] == 0;
+    /// Those of some answers that fewer calls came to than there should be.
+    pub fn missing(&self, to_meet: &[Met], at_least: usize) -> Vec<Met> {
+        let unmet = |met: &Met| self.met[*met as usize] < at_least;
         to_meet.iter().copied().filter(unmet).collect()
     }
 
     /// How many calls came to each answer that there was.
     pub fn counts(&self) -> String {
-        let counts = NAMES.iter().zip(self.met).filter(|(_, count)| *count > 0);
+        let answers = ANSWERS.iter().enumerate();
+        let names = answers.map(|(number, name)| format!("{number} {name}"));
+        let names = names.chain(["Short rows among the Done".into()]);
+        let counts = names.zip(self.met).filter(|(_, count)| *count > 0);
         let counts: Vec<String> = counts
             .map(|(name, count)| format!("{name}: {count}"))
             .collect();
@@ -111,9 +128,11 @@ mod tests {
         assert!(!add(&mut tally, &[0xDD], 11, 0));
         assert!(!add(&mut tally, &[0x00], 58, 0));
         assert!(!add(&mut tally, &[], 58, 0));
-        assert_eq!(tally.missing(&OF_ROWS), [Nothing, ShortRow]);
+        assert_eq!(tally.missing(&OF_ROWS, 1), [Nothing, ShortRow]);
         assert!(!add(&mut tally, &[0xDD], 12, 0));
-        assert_eq!(tally.missing(&OF_ROWS), [Nothing]);
+        assert_eq!(tally.missing(&OF_ROWS, 1), [Nothing]);
+        let twice = tally.missing(&OF_ROWS, 2);
+        assert_eq!(twice, [Nothing, NoRoom, ImageSize, ShortRow]);
         assert_eq!(
             tally.counts(),
             "0 Done: 2, 4 NoRoom: 1, 5 ImageSize: 1, Short rows among the Done: 1"

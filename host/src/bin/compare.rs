@@ -3,7 +3,7 @@
 use host::calls::Calls;
 use host::exported::Exported;
 use host::outcome::{expected, filled, Call};
-use host::runs::{groups, Group};
+use host::runs::{all_calls, groups, Group};
 use host::tally::Tally;
 use std::process::ExitCode;
 use std::{env, io};
@@ -46,15 +46,15 @@ fn compare_group(group: Group, exported: &mut Exported) -> io::Result<Tally> {
 
 /// Makes all calls. Whether none differs, and every answer that a function has was met.
 fn compare(words: &[String]) -> io::Result<bool> {
-    let mut exported = Exported::start(words)?;
+    let mut exported = Exported::start(words, all_calls)?;
     let (mut calls, mut differing, mut complete) = (0, 0, true);
     for group in groups() {
-        let (function, to_meet) = (group.function, group.to_meet);
+        let (function, to_meet, at_least) = (group.function, group.to_meet, group.at_least);
         let tally = compare_group(group, &mut exported)?;
         calls += tally.calls;
         differing += tally.differing;
-        for met in tally.missing(to_meet) {
-            println!("compare: no call of {function} came to {met:?}");
+        for met in tally.missing(to_meet, at_least) {
+            println!("compare: fewer than {at_least} calls of {function} came to {met:?}");
             complete = false;
         }
     }

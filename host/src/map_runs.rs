@@ -1,0 +1,50 @@
+//! The calls of `z80_map_check` that are compared.
+
+use crate::calls::Calls;
+use crate::maps::codes::{cut_codes, lone_codes};
+use crate::maps::entries::entry_maps;
+use crate::maps::full::{full_maps, rows_at_ends, sizes};
+use crate::maps::small::{broken_maps, damaged_maps, every_marking, grown_maps, random_maps};
+use crate::maps::{pairs, Drawn};
+use crate::runs::Run;
+
+/// Document 01's maps: image and marks. The origin is 0, and so is the entry.
+const STARRED: [(&[u8], &[u8]); 7] = [
+    (&[0x18, 0xFE], &[1, 2]),
+    (&[0x18, 0xFF], &[1, 2]),
+    (&[0xC9], &[1]),
+    (&[0x00], &[1]),
+    (&[0xC9, 0x00], &[1, 2]),
+    (&[0x3E, 0x05, 0xC9], &[1, 1, 1]),
+    (&[0xDD, 0x23, 0xC9], &[1, 2, 1]),
+];
+
+fn starred_maps() -> impl Iterator<Item = Drawn> {
+    STARRED.into_iter().map(|(image, marks)| Drawn {
+        image: image.to_vec(),
+        origin: 0,
+        marks: marks.to_vec(),
+        entries: pairs(&[0]),
+    })
+}
+
+fn run(maps: impl Iterator<Item = Drawn> + 'static) -> Run {
+    Box::new(maps.map(Calls::of_map))
+}
+
+pub fn map_runs() -> Vec<(&'static str, Run)> {
+    vec![
+        ("document 01's maps", run(starred_maps())),
+        ("every marking of 1 to 6 bytes", run(every_marking())),
+        ("every code of each page alone", run(lone_codes())),
+        ("every code of each page cut off", run(cut_codes())),
+        ("random marks", run(random_maps())),
+        ("grown maps", run(grown_maps())),
+        ("grown maps, one thing damaged", run(damaged_maps())),
+        ("two rules broken", run(broken_maps())),
+        ("0 to 65,537 entries", run(entry_maps())),
+        ("rows at both ends of all addresses", run(rows_at_ends())),
+        ("full maps, one thing damaged", run(full_maps())),
+        ("images of 0 to 65,537 bytes", run(sizes())),
+    ]
+}
