@@ -112,6 +112,7 @@ fn time(pair: &Pair, inputs: &[Input]) {
     let times = times(
         inputs.len(),
         || on_all(inputs, pair.here),
+        "original",
         || on_all(inputs, pair.original),
     );
     times.print(pair.name);

@@ -54,15 +54,11 @@ fn time(name: &str, image: &[u8]) {
     let times = times(
         rows,
         || drop(black_box(here(black_box(image)))),
+        "original",
         || drop(black_box(original(black_box(image)))),
     );
     times.print("a row");
-    let whole = |nanoseconds: f64| nanoseconds * rows as f64 / 1000.0;
-    println!(
-        "bench:   whole      {:7.0} us here, {:7.0} us original",
-        whole(times.here),
-        whole(times.original)
-    );
+    times.print_whole(rows);
 }
 
 pub fn time_all() {

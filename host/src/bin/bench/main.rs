@@ -5,6 +5,8 @@ mod calls;
 #[cfg(linked)]
 mod listing;
 #[cfg(linked)]
+mod maps;
+#[cfg(linked)]
 mod rounds;
 
 #[cfg(not(linked))]
@@ -17,4 +19,5 @@ fn main() -> std::process::ExitCode {
 fn main() {
     calls::time_all();
     listing::time_all();
+    maps::time_all();
 }

@@ -8,21 +8,23 @@ const ROUNDS: usize = 60;
 /// A round has at least this many calls, so that the clock's own steps do not show.
 const CALLS: usize = 65_536;
 
-/// Nanoseconds a call on either side.
+/// Nanoseconds a call here and on the other side, which has a name.
 pub struct Times {
-    pub here: f64,
-    pub original: f64,
+    here: f64,
+    other: f64,
+    name: &'static str,
 }
 
 /// Times two sides of which each makes so many calls.
-pub fn times(calls: usize, here: impl Fn(), original: impl Fn()) -> Times {
+pub fn times(calls: usize, here: impl Fn(), name: &'static str, other: impl Fn()) -> Times {
     let mut times = Times {
         here: f64::INFINITY,
-        original: f64::INFINITY,
+        other: f64::INFINITY,
+        name,
     };
     for _ in 0..ROUNDS {
         times.here = times.here.min(round(calls, &here));
-        times.original = times.original.min(round(calls, &original));
+        times.other = times.other.min(round(calls, &other));
     }
     times
 }
@@ -38,11 +40,20 @@ fn round(calls: usize, make: impl Fn()) -> f64 {
 }
 
 impl Times {
-    pub fn print(&self, name: &str) {
-        let Times { here, original } = self;
+    /// The time of a call.
+    pub fn print(&self, call: &str) {
+        let Times { here, other, name } = self;
+        let ratio = here / other;
+        println!("bench:   {call:<10} {here:7.1} ns here, {other:7.1} ns {name}, ratio {ratio:.2}");
+    }
+
+    /// The time of so many calls together.
+    pub fn print_whole(&self, calls: usize) {
+        let whole = |nanoseconds: f64| nanoseconds * calls as f64 / 1000.0;
+        let (here, other) = (whole(self.here), whole(self.other));
         println!(
-            "bench:   {name:<10} {here:7.1} ns here, {original:7.1} ns original, ratio {:.2}",
-            here / original
+            "bench:   whole      {here:7.0} us here, {other:7.0} us {}",
+            self.name
         );
     }
 }
