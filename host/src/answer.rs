@@ -51,3 +51,31 @@ pub fn decoded(ins: &[u8]) -> Result<OpCode, Refusal> {
     }
     disas(ins).ok_or(Refusal::Short)
 }
+
+#[cfg(test)]
+mod tests {
+    use super::*;
+    use Refusal::*;
+
+    #[test]
+    fn names_by_number() {
+        let refusals = [
+            Nothing,
+            Short,
+            Long,
+            NoRoom,
+            ImageSize,
+            MarkSize,
+            EntryCount,
+            MarkValue,
+            EntryNotStart,
+            Unfinished,
+            Clipped,
+            Stray,
+            BadNext,
+        ];
+        for refusal in refusals {
+            assert_eq!(ANSWERS[refusal as usize], format!("{refusal:?}"));
+        }
+    }
+}

@@ -54,14 +54,10 @@ impl fmt::Display for Asked<'_> {
                 write!(f, "image of {} bytes from {origin:04X} on", image.len())
             }
             Asked::Map(map) => {
+                let parts = [map.image, map.marks, map.entries];
+                let [image, marks, entries] = parts.map(shown);
                 write!(f, "Map from {:04X} on, ", map.origin)?;
-                write!(
-                    f,
-                    "image {}, marks {}, ",
-                    shown(map.image),
-                    shown(map.marks)
-                )?;
-                write!(f, "entries {}", shown(map.entries))
+                write!(f, "image {image}, marks {marks}, entries {entries}")
             }
         }
     }

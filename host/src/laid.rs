@@ -59,9 +59,12 @@ mod tests {
     };
 
     #[test]
-    fn the_same_map() {
-        assert_eq!(Laid::out(&MAP).map(), MAP);
-        assert_eq!(Laid::out(&MAP), Laid::out(&MAP));
+    fn by_hand() {
+        let laid = Laid::out(&MAP);
+        assert_eq!(laid.map(), MAP);
+        assert_eq!(laid.image, [0x3E, 0x05, 0xC9, 0, 0, 0, 0]);
+        assert_eq!(laid.marks, [1, 2, 1, 1, 1, 1, 1]);
+        assert_eq!(laid.entries, [0x00, 0x10, 0xFF, 0xFF, 0xFF, 0xFF]);
     }
 
     /// Any byte that is altered, also behind a part, makes it another one.

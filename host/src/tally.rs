@@ -141,6 +141,15 @@ mod tests {
     }
 
     #[test]
+    fn kinds_by_number() {
+        let kinds = OF_BYTES.iter().chain(&OF_ROWS).chain(&OF_MAPS);
+        for kind in kinds.filter(|kind| **kind != ShortRow) {
+            assert_eq!(ANSWERS[*kind as usize], format!("{kind:?}"));
+        }
+        assert_eq!(ShortRow as usize, KINDS - 1);
+    }
+
+    #[test]
     fn first_differences_shown() {
         let mut tally = Tally::default();
         for k in 0..SHOWN + 5 {

@@ -161,7 +161,7 @@ mod tests {
         holding.any(|refused| refused.refusal == rule)
     }
 
-    /// Of a hundred maps most break the rule, so that the others are those where it takes luck.
+    /// Each of a hundred maps breaks the rule, but that an entry more may be a start.
     #[test]
     fn each_rule_is_broken() {
         let mut mixed = Mixed::new(0x5A80_0009);
@@ -172,7 +172,8 @@ mod tests {
                 holds(rule, &drawn)
             });
             let broken = broken.count();
-            assert!(broken > 60, "{rule:?} {broken}");
+            let by_luck = rule == EntryNotStart && (60..100).contains(&broken);
+            assert!(broken == 100 || by_luck, "{rule:?} {broken}");
         }
     }
 
@@ -192,18 +193,31 @@ mod tests {
         }
     }
 
-    /// A damage is one: the map is another one, and what is damaged is found among all of its parts.
+    /// What is damaged, a length or what stands there, is found among all parts.
     #[test]
     fn damages() {
         let (right, mut mixed) = (map(), Mixed::new(0x5A80_0008));
-        let mut changed = [0; 4];
-        for _ in 0..400 {
+        let mut met = [0; 8];
+        for _ in 0..1000 {
             let wrong = damaged(&right, &mut mixed);
-            changed[0] += (wrong.image != right.image) as usize;
-            changed[1] += (wrong.marks != right.marks) as usize;
-            changed[2] += (wrong.entries != right.entries) as usize;
-            changed[3] += (wrong.origin != right.origin) as usize;
+            let resized = |part: fn(&Drawn) -> &Vec<u8>| part(&wrong).len() != part(&right).len();
+            let image = resized(|map| &map.image);
+            let marks = resized(|map| &map.marks);
+            let entries = resized(|map| &map.entries);
+            let damages = [
+                image && !marks,
+                marks && !image,
+                image && marks,
+                entries,
+                !image && wrong.image != right.image,
+                !marks && wrong.marks != right.marks,
+                !entries && wrong.entries != right.entries,
+                wrong.origin != right.origin,
+            ];
+            for (count, damage) in met.iter_mut().zip(damages) {
+                *count += damage as usize;
+            }
         }
-        assert!(changed.iter().all(|count| *count > 20), "{changed:?}");
+        assert!(met.iter().all(|count| *count > 20), "{met:?}");
     }
 }

@@ -119,9 +119,8 @@ impl Growth {
 
     /// The mark at an address; none outside the image.
     fn mark(&self, address: u16) -> Option<u8> {
-        let inside = address >= self.drawn.origin;
-        let mark = inside.then(|| self.drawn.marks.get(self.at(address)))?;
-        mark.copied()
+        let at = address.checked_sub(self.drawn.origin)?;
+        self.drawn.marks.get(at as usize).copied()
     }
 
     fn record(&self, start: u16) -> Option<OpCode> {
