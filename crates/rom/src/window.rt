@@ -19,11 +19,13 @@ fn window_end(place: usize, length: usize) -> usize
     place + OpCode::LENGTH_MAX
 }
 
-// The up to four bytes at a place, decoded.
+// The up to four bytes at a place, decoded; behind the image there are none.
 pub fn decode_at(image: &[u8], place: usize) -> Decoded
-    requires { ⌜ place < length (now image) ⌝ }
     ensures { λ r. ⌜ r ≡ decodeOf (window (drop place (now (image .entry)))) ⌝ }
 {
+    if image.len() <= place {
+        return disas(&image[0..0]);
+    }
     let end = window_end(place, image.len());
     disas(&image[place..end])
 }
