@@ -6,7 +6,7 @@ use crate::map_runs::map_runs;
 use crate::mixed::Mixed;
 use crate::pages::{edged, ED_BEHIND, PAGES};
 use crate::row_runs::row_runs;
-use crate::tally::{Met, OF_BYTES, OF_MAPS, OF_ROWS};
+use crate::tally::{OF_BYTES, OF_MAPS, OF_ROWS};
 
 const RANDOM_INPUTS: usize = 1_000_000;
 
@@ -21,7 +21,7 @@ pub type Run = Box<dyn Iterator<Item = Calls>>;
 /// The runs of one function, what their answers must meet, and how often.
 pub struct Group {
     pub function: &'static str,
-    pub to_meet: &'static [Met],
+    pub to_meet: &'static [usize],
     pub at_least: usize,
     pub runs: Vec<(&'static str, Run)>,
 }

@@ -1,55 +1,33 @@
 //! What the compared calls of a function came to.
 
-use crate::answer::ANSWERS;
+use crate::answer::{name, REFUSALS};
 use crate::asked::Asked;
 use crate::outcome::{difference, Call, Outcome};
 
 /// Differences past these are counted and not shown.
 const SHOWN: usize = 10;
 
-/// What an answer may be: the answer numbers in order, and besides Done the row that is so although its bytes are Short.
-#[derive(Debug, PartialEq, Eq, Clone, Copy)]
-pub enum Met {
-    Done,
-    Nothing,
-    Short,
-    Long,
-    NoRoom,
-    ImageSize,
-    MarkSize,
-    EntryCount,
-    MarkValue,
-    EntryNotStart,
-    Unfinished,
-    Clipped,
-    Stray,
-    BadNext,
-    ShortRow,
-}
+/// Besides the answer numbers: the row that is Done although its bytes are Short.
+const SHORT_ROW: usize = REFUSALS.len() + 1;
 
-use Met::*;
-
-const KINDS: usize = ANSWERS.len() + 1;
+const KINDS: usize = SHORT_ROW + 1;
 
 /// What the functions of a row's bytes may answer.
-pub const OF_BYTES: [Met; 5] = [Done, Nothing, Short, Long, NoRoom];
+pub const OF_BYTES: [usize; 5] = [0, 1, 2, 3, 4];
 
 /// What `z80_row` may answer.
-pub const OF_ROWS: [Met; 5] = [Done, Nothing, NoRoom, ImageSize, ShortRow];
+pub const OF_ROWS: [usize; 5] = [0, 1, 4, 5, SHORT_ROW];
 
 /// What `z80_map_check` may answer.
-pub const OF_MAPS: [Met; 10] = [
-    Done,
-    ImageSize,
-    MarkSize,
-    EntryCount,
-    MarkValue,
-    EntryNotStart,
-    Unfinished,
-    Clipped,
-    Stray,
-    BadNext,
-];
+pub const OF_MAPS: [usize; 10] = [0, 5, 6, 7, 8, 9, 10, 11, 12, 13];
+
+/// How a kind of answer is printed.
+fn shown(kind: usize) -> String {
+    match name(kind) {
+        Some(name) => format!("{kind} {name}"),
+        None => "Short rows among the Done".into(),
+    }
+}
 
 #[derive(Default)]
 pub struct Tally {
@@ -64,7 +42,7 @@ impl Tally {
         self.calls += 1;
         self.met[expected.number as usize] += 1;
         if is_short_row(call, &expected) {
-            self.met[ShortRow as usize] += 1;
+            self.met[SHORT_ROW] += 1;
         }
         let difference = difference(call, expected, found)?;
         self.differing += 1;
@@ -72,19 +50,16 @@ impl Tally {
     }
 
     /// Those of some answers that fewer calls came to than there should be.
-    pub fn missing(&self, to_meet: &[Met], at_least: usize) -> Vec<Met> {
-        let unmet = |met: &Met| self.met[*met as usize] < at_least;
-        to_meet.iter().copied().filter(unmet).collect()
+    pub fn missing(&self, to_meet: &[usize], at_least: usize) -> Vec<String> {
+        let unmet = to_meet.iter().filter(|kind| self.met[**kind] < at_least);
+        unmet.map(|kind| shown(*kind)).collect()
     }
 
     /// How many calls came to each answer that there was.
     pub fn counts(&self) -> String {
-        let answers = ANSWERS.iter().enumerate();
-        let names = answers.map(|(number, name)| format!("{number} {name}"));
-        let names = names.chain(["Short rows among the Done".into()]);
-        let counts = names.zip(self.met).filter(|(_, count)| *count > 0);
-        let counts: Vec<String> = counts
-            .map(|(name, count)| format!("{name}: {count}"))
+        let met = self.met.iter().enumerate().filter(|(_, count)| **count > 0);
+        let counts: Vec<String> = met
+            .map(|(kind, count)| format!("{}: {count}", shown(kind)))
             .collect();
         counts.join(", ")
     }
@@ -93,7 +68,7 @@ impl Tally {
 fn is_short_row(call: &Call, expected: &Outcome) -> bool {
     let lent = &expected.lent;
     matches!(call.asked, Asked::Row(_))
-        && expected.number == Done as u8
+        && expected.number == 0
         && lent.buffer[..lent.count as usize].ends_with(b"?\n")
 }
 
@@ -128,25 +103,17 @@ mod tests {
         assert!(!add(&mut tally, &[0xDD], 11, 0));
         assert!(!add(&mut tally, &[0x00], 58, 0));
         assert!(!add(&mut tally, &[], 58, 0));
-        assert_eq!(tally.missing(&OF_ROWS, 1), [Nothing, ShortRow]);
+        let short = "Short rows among the Done";
+        assert_eq!(tally.missing(&OF_ROWS, 1), ["1 Nothing", short]);
         assert!(!add(&mut tally, &[0xDD], 12, 0));
-        assert_eq!(tally.missing(&OF_ROWS, 1), [Nothing]);
+        assert_eq!(tally.missing(&OF_ROWS, 1), ["1 Nothing"]);
         let twice = tally.missing(&OF_ROWS, 2);
-        assert_eq!(twice, [Nothing, NoRoom, ImageSize, ShortRow]);
+        assert_eq!(twice, ["1 Nothing", "4 NoRoom", "5 ImageSize", short]);
         assert_eq!(
             tally.counts(),
             "0 Done: 2, 4 NoRoom: 1, 5 ImageSize: 1, Short rows among the Done: 1"
         );
         assert_eq!((tally.calls, tally.differing), (4, 0));
-    }
-
-    #[test]
-    fn kinds_by_number() {
-        let kinds = OF_BYTES.iter().chain(&OF_ROWS).chain(&OF_MAPS);
-        for kind in kinds.filter(|kind| **kind != ShortRow) {
-            assert_eq!(ANSWERS[*kind as usize], format!("{kind:?}"));
-        }
-        assert_eq!(ShortRow as usize, KINDS - 1);
     }
 
     #[test]

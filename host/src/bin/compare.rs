@@ -54,7 +54,7 @@ fn compare(words: &[String]) -> io::Result<bool> {
         calls += tally.calls;
         differing += tally.differing;
         for met in tally.missing(to_meet, at_least) {
-            println!("compare: fewer than {at_least} calls of {function} came to {met:?}");
+            println!("compare: fewer than {at_least} calls of {function} came to {met}");
             complete = false;
         }
     }

@@ -1,7 +1,7 @@
 //! Checks a map from files with the exported function, and prints what it says. The words behind the origin run the bridge,
 //! where there is one.
 
-use host::answer::ANSWERS;
+use host::answer::name;
 use host::asked::Asked;
 use host::calls::Calls;
 use host::exported::Exported;
@@ -37,8 +37,7 @@ fn checked(drawn: &Drawn, bridge: &[String]) -> io::Result<(u8, u32)> {
 
 /// The number and its name, and the address where it has one.
 fn shown(number: u8, address: u32) -> Result<String, String> {
-    let name = ANSWERS.get(number as usize);
-    let name = name.ok_or(format!("{number} is no answer"))?;
+    let name = name(number as usize).ok_or(format!("{number} is no answer"))?;
     Ok(match number {
         0..=7 => format!("{number} {name}"),
         _ => format!("{number} {name} at {address:04X}"),

@@ -1,23 +1,17 @@
 //! Maps that are not as they were drawn: one thing damaged, or rules broken on purpose.
 
 use crate::answer::Refusal::{self, *};
+use crate::answer::REFUSALS;
 use crate::listing::ADDRESSES;
 use crate::maps::{pairs, Drawn};
 use crate::marking::{ENTRIES, PAIR};
 use crate::mixed::Mixed;
 
 /// The rules of the map check, in the order of their numbers.
-pub const RULES: [Refusal; 9] = [
-    ImageSize,
-    MarkSize,
-    EntryCount,
-    MarkValue,
-    EntryNotStart,
-    Unfinished,
-    Clipped,
-    Stray,
-    BadNext,
-];
+pub fn rules() -> impl Iterator<Item = Refusal> {
+    let of_maps = |refusal: &Refusal| *refusal as u8 >= ImageSize as u8;
+    REFUSALS.into_iter().filter(of_maps)
+}
 
 /// The map with a byte, a mark, an entry, the origin or a length changed.
 pub fn damaged(drawn: &Drawn, mixed: &mut Mixed) -> Drawn {
@@ -165,7 +159,7 @@ mod tests {
     #[test]
     fn each_rule_is_broken() {
         let mut mixed = Mixed::new(0x5A80_0009);
-        for rule in RULES {
+        for rule in rules() {
             let broken = (0..100).filter(|_| {
                 let mut drawn = map();
                 break_rule(rule, &mut drawn, &mut mixed);
@@ -181,7 +175,7 @@ mod tests {
     #[test]
     fn pairs_of_rules_are_broken() {
         let mut mixed = Mixed::new(0x5A80_0081);
-        for (first, second) in RULES.iter().flat_map(|a| RULES.map(|b| (*a, b))) {
+        for (first, second) in rules().flat_map(|a| rules().map(move |b| (a, b))) {
             let broken = (0..100).filter(|_| {
                 let mut drawn = map();
                 break_rule(first, &mut drawn, &mut mixed);

@@ -2,7 +2,7 @@
 
 use crate::images::mixed_code;
 use crate::listing::ADDRESSES;
-use crate::maps::broken::{break_rule, damaged, RULES};
+use crate::maps::broken::{break_rule, damaged, rules};
 use crate::maps::flowing::flowing_code;
 use crate::maps::grown::{followed, grown, overgrown};
 use crate::maps::{pairs, Drawn};
@@ -141,8 +141,7 @@ pub fn damaged_maps() -> impl Iterator<Item = Drawn> {
 pub fn broken_maps() -> impl Iterator<Item = Drawn> {
     let (shortest, longest) = BROKEN_SIZES;
     let mut mixed = Mixed::new(0x5A80_0139);
-    let rules = RULES.into_iter();
-    let pairs = rules.flat_map(|first| RULES.map(|second| [first, second]));
+    let pairs = rules().flat_map(|first| rules().map(move |second| [first, second]));
     let pairs = pairs.flat_map(|both| [both; BROKEN]);
     pairs.map(move |both| {
         let mut drawn = growing(shortest, longest, &mut mixed);
