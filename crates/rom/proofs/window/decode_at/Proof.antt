@@ -11,12 +11,12 @@ use Rattle.rom.proofs.window.decode_at.Statement.{statement}
 use Rattle.rom.proofs.window.decode_at.Tie as tie
 
 returns : tie.Need-returns
-returns c = 
+returns c =
     let s = c .before .before .before .before .args in
     c .disas .ensures ∙ ap decodeOf (first-of 4 0 (drop (s .place) (now (s .image))) (omega (arith, c .before .before .if1 .taken, length-drop (s .place) (now (s .image)))))
 
 returns-2 : tie.Need-returns-2
-returns-2 c = 
+returns-2 c =
     let e = c .before .before .window-end in
     let s = c .before .before .before .before .before .args in
     c .disas2 .ensures ∙ ap decodeOf (first-of 4 (e .result - s .place) (drop (s .place) (now (s .image))) (omega (arith, e .ensures, length-drop (s .place) (now (s .image)), c .before .before .before .if1 .left)))
