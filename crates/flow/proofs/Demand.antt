@@ -1,4 +1,5 @@
--- Demand 3 for this decoder: the theorems of `marking` cited. What a walk presumes stands in `marking`'s specs/Walk.antt. Assumes nothing else.
+-- Demand 3 for this decoder: the theorems of `marking` cited. Assumes nothing else than what a walk presumes.
+-- Presumed, by what a walk is (`marking`'s specs/Walk.antt): code is not written to (`step`), returns go back to where their calls left off (`back`), interrupts are not counted (`move`).
 use Prim.Native.Nat.{ℕ, _+_, _≤_, _<_}
 use mathlib.Core.Path.{_≡_}
 use mathlib.Core.Bool.{Bool}

@@ -1,4 +1,5 @@
--- Demand 3, over any decoder whose lengths run from 1 to 4 within the window, and any map that meets the marking rules: walks from an entry, and no byte in two marked instructions. What a walk presumes stands in specs/Walk.antt.
+-- Demand 3, over any decoder whose lengths run from 1 to 4 within the window, and any map that meets the marking rules: walks from an entry, and no byte in two marked instructions.
+-- Presumed, by what a walk is (specs/Walk.antt): code is not written to (`step`), returns go back to where their calls left off (`back`), interrupts are not counted (`move`).
 use Prim.Native.Nat.{ℕ, _+_, _-_, _≤_, _<_}
 use native.Mathlib.Omega.{arith}
 use mathlib.Core.Path.{_≡_, refl, subst}
