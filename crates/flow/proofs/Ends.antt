@@ -1,4 +1,4 @@
--- A decoded row that leads to a place it does not name has HL, IX or IY as its first operand. Assumes nothing.
+-- A decoded row that leads to a place it does not name is a jump whose first operand is HL, IX or IY: what the definitions say of other rows without a target is never met. Assumes nothing.
 use Prim.Native.Nat.{ℕ}
 use native.Mathlib.Omega.{arith}
 use mathlib.Core.Path.{_≡_, sym, ap, subst}
@@ -6,6 +6,7 @@ use mathlib.Core.Bool.{Bool, true, _&&_}
 use mathlib.Core.List.{List}
 use lib.Dec.{T, ltb}
 use lib.ListN.{getD}
+use Rattle.opcode.specs.declared.instruction.Instruction.{Instruction}
 use Rattle.opcode.specs.declared.operand.Place.{Place}
 use Rattle.opcode.specs.declared.record.OpCode.{OpCode}
 use Rattle.table.specs.declared.Answer.{Answer}
@@ -21,25 +22,25 @@ use Rattle.table.proofs.Rows.{Everywhere, row-holds}
 use Rattle.table.proofs.Done.{decides}
 use Rattle.marking.specs.declared.Flow.{Flow}
 use Rattle.flow.specs.Flow.{leadOf, flowBy, flowOf}
-use Rattle.flow.specs.Consequences.{hasPointer}
+use Rattle.flow.specs.Consequences.{jumps, hasPointer}
 
--- a row that goes on so, with such a first operand, names where it leads, or has HL, IX or IY there
-abbrev told : Flow → Place → Bool
-told Flow.After p = true
-told (Flow.Jump t) p = true
-told (Flow.Branch t) p = true
-told (Flow.Call t) p = true
-told (Flow.CallIf t) p = true
-told (Flow.Restart t) p = true
-told Flow.Return p = true
-told Flow.ReturnIf p = true
-told Flow.RegisterJump p = hasPointer p
-told Flow.Repeat p = true
+-- a row that goes on so, with such an instruction and first operand, names where it leads, or is a jump with HL, IX or IY there
+abbrev told : Flow → Instruction → Place → Bool
+told Flow.After i p = true
+told (Flow.Jump t) i p = true
+told (Flow.Branch t) i p = true
+told (Flow.Call t) i p = true
+told (Flow.CallIf t) i p = true
+told (Flow.Restart t) i p = true
+told Flow.Return i p = true
+told Flow.ReturnIf i p = true
+told Flow.RegisterJump i p = jumps i && hasPointer p
+told Flow.Repeat i p = true
 
 module _ (a : ℕ) (s : List ℕ) where
   abbrev tells : Row → Bool
   tells gap = true
-  tells (row i x y z n t) = told (flowBy i (leadOf a (read x s)) (leadOf a (read y s))) (read x s)
+  tells (row i x y z n t) = told (flowBy i (leadOf a (read x s)) (leadOf a (read y s))) i (read x s)
 
   -- beside DD CB: rotates, BIT, and the others
   abbrev bit-test : Index → Row → Bool
@@ -67,12 +68,12 @@ module _ (a : ℕ) (s : List ℕ) where
         bit = λ i c. bit-tells i c (getD cb c gap) (at-code (bit-test i) cb (elim i [ ix ↦ tt | iy ↦ tt ]) tt c);
       }
 
-  of-row : (x : Row) (d : List ℕ) → T (tells x) → flowOf a (recordOf x s d) ≡ Flow.RegisterJump → T (hasPointer (recordOf x s d .op1))
+  of-row : (x : Row) (d : List ℕ) → T (tells x) → flowOf a (recordOf x s d) ≡ Flow.RegisterJump → T (jumps (recordOf x s d .ins) && hasPointer (recordOf x s d .op1))
   of-row gap d w e = let z : _≡_ {A = ℕ} 0 1 = cc e in absurd (omega arith)
-  of-row (row i x y z n t) d w e = subst (λ (f : Flow). T (told f (read x s))) e w
+  of-row (row i x y z n t) d w e = subst (λ (f : Flow). T (told f i (read x s))) e w
 
-pub register-jumps : (a : ℕ) (s : List ℕ) → decodeOf s .answer ≡ Answer.Done → flowOf a (decodeOf s .rec) ≡ Flow.RegisterJump → T (hasPointer (decodeOf s .rec .op1))
+pub register-jumps : (a : ℕ) (s : List ℕ) → decodeOf s .answer ≡ Answer.Done → flowOf a (decodeOf s .rec) ≡ Flow.RegisterJump → T (jumps (decodeOf s .rec .ins) && hasPointer (decodeOf s .rec .op1))
 register-jumps a s done e =
     let made : decodeOf s .rec ≡ recordOf (rowOf s) (operandBytes s) (four s) = ap (λ (u : Decoded). u .rec) (decides s done .made) in
-    subst (λ (o : OpCode). T (hasPointer (o .op1))) (sym made)
+    subst (λ (o : OpCode). T (jumps (o .ins) && hasPointer (o .op1))) (sym made)
     (of-row a (operandBytes s) (rowOf s) (four s) (row-holds (tells a (operandBytes s)) (all-tell a (operandBytes s)) s) (subst (λ (o : OpCode). flowOf a o ≡ Flow.RegisterJump) made e))
