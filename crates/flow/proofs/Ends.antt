@@ -4,20 +4,17 @@ use native.Mathlib.Omega.{arith}
 use mathlib.Core.Path.{_≡_, sym, ap, subst}
 use mathlib.Core.Bool.{Bool, true, _&&_}
 use mathlib.Core.List.{List}
-use lib.Dec.{T, ltb}
-use lib.ListN.{getD}
+use lib.Dec.{T}
 use Rattle.opcode.specs.declared.instruction.Instruction.{Instruction}
 use Rattle.opcode.specs.declared.operand.Place.{Place}
 use Rattle.opcode.specs.declared.record.OpCode.{OpCode}
 use Rattle.table.specs.declared.Answer.{Answer}
 use Rattle.table.specs.declared.Decoded.{Decoded}
-use Rattle.table.specs.Row.{Index, ix, iy, Row, row, gap, read}
+use Rattle.table.specs.Row.{ix, iy, Row, row, gap, read}
 use Rattle.table.specs.Plain.{plain}
 use Rattle.table.specs.Cb.{cb}
 use Rattle.table.specs.Ed.{ed}
-use Rattle.table.specs.Prefix.{bitRow}
 use Rattle.table.specs.Decode.{rowOf, operandBytes, recordOf, four, decodeOf}
-use Rattle.table.proofs.Pages.{at-code, chosen, both-left, both-right}
 use Rattle.table.proofs.Rows.{Everywhere, row-holds}
 use Rattle.table.proofs.Done.{decides}
 use Rattle.marking.specs.declared.Flow.{Flow}
@@ -42,18 +39,6 @@ module _ (a : ℕ) (s : List ℕ) where
   tells gap = true
   tells (row i x y z n t) = told (flowBy i (leadOf a (read x s)) (leadOf a (read y s))) i (read x s)
 
-  -- beside DD CB: rotates, BIT, and the others
-  abbrev bit-test : Index → Row → Bool
-  bit-test i x = tells (bitRow i 0 x) && (tells (bitRow i 0x40 x) && tells (bitRow i 0x80 x))
-
-  bit-tells : (i : Index) (c : ℕ) (x : Row) → T (bit-test i x) → T (tells (bitRow i c x))
-  bit-tells i c gap w = tt
-  bit-tells i c (row ins x y z n t) w =
-      let p = tells (bitRow i 0 (row ins x y z n t)) in
-      let q = tells (bitRow i 0x40 (row ins x y z n t)) in
-      let rest = both-right p _ w in
-      chosen (λ (r : Row). T (tells r)) (ltb c 0x40) _ _ (both-left p _ w) (chosen (λ (r : Row). T (tells r)) (ltb c 0x80) _ _ (both-left q _ rest) (both-right q _ rest))
-
   all-tell : Everywhere tells
   unfolding plain cb ed
   all-tell =
@@ -65,7 +50,8 @@ module _ (a : ℕ) (s : List ℕ) where
         behind-plain = λ i. elim i [ ix ↦ tt | iy ↦ tt ];
         behind-ed = λ i. elim i [ ix ↦ tt | iy ↦ tt ];
         load = λ i. elim i [ ix ↦ tt | iy ↦ tt ];
-        bit = λ i c. bit-tells i c (getD cb c gap) (at-code (bit-test i) cb (elim i [ ix ↦ tt | iy ↦ tt ]) tt c);
+        no-bit = λ i. tt;
+        on-bit = λ i. elim i [ ix ↦ tt | iy ↦ tt ];
       }
 
   of-row : (x : Row) (d : List ℕ) → T (tells x) → flowOf a (recordOf x s d) ≡ Flow.RegisterJump → T (jumps (recordOf x s d .ins) && hasPointer (recordOf x s d .op1))

@@ -1,18 +1,30 @@
 -- A test that holds on the rows of every page, also as a prefix changes them, holds of the row of any bytes.
 -- Assumes nothing.
-use mathlib.Core.Bool.{Bool}
+use mathlib.Core.Bool.{Bool, _&&_}
 use mathlib.Core.List.{List}
 use Prim.Native.Nat.{ℕ}
-use lib.Dec.{T, eqb}
+use lib.Dec.{T, eqb, ltb}
 use lib.ListN.{getD}
-use Rattle.table.specs.Row.{Index, ix, iy, Row, gap}
+use Rattle.table.specs.Row.{Index, ix, iy, Row, row, gap}
 use Rattle.table.specs.Departures.{ed-behind}
 use Rattle.table.specs.Plain.{plain}
 use Rattle.table.specs.Cb.{cb}
 use Rattle.table.specs.Ed.{ed}
 use Rattle.table.specs.Prefix.{prefixRow, ldIndexed, bitRow, behindRow}
 use Rattle.table.specs.Decode.{pageRow, rowOf}
-use Rattle.table.proofs.Pages.{every, at-code, chosen}
+use Rattle.table.proofs.Pages.{every, at-code, chosen, both-left, both-right}
+
+-- the test p of a row of the CB page behind DD or FD, in each of the three forms that its code picks
+abbrev pub beside : (Row → Bool) → Index → Row → Bool
+beside p i x = p (bitRow i 0 x) && (p (bitRow i 0x40 x) && p (bitRow i 0x80 x))
+
+bit-holds : (p : Row → Bool) (i : Index) (c : ℕ) (x : Row) → T (beside p i x) → T (p (bitRow i c x))
+bit-holds p i c gap w = both-left (p gap) _ w
+bit-holds p i c (row ins x y z n t) w =
+    let a = p (bitRow i 0 (row ins x y z n t)) in
+    let b = p (bitRow i 0x40 (row ins x y z n t)) in
+    let rest = both-right a _ w in
+    chosen (λ (r : Row). T (p r)) (ltb c 0x40) _ _ (both-left a _ w) (chosen (λ (r : Row). T (p r)) (ltb c 0x80) _ _ (both-left b _ rest) (both-right b _ rest))
 
 -- the test p at a gap, on the three pages, and behind a prefix
 pub record Everywhere (p : Row → Bool) : Type 0 where
@@ -23,7 +35,8 @@ pub record Everywhere (p : Row → Bool) : Type 0 where
   pub behind-plain : (i : Index) → T (every (λ (x : Row). p (prefixRow i x)) plain)
   pub behind-ed : (i : Index) → T (every (λ (x : Row). p (prefixRow i (ed-behind x))) ed)
   pub load : (i : Index) → T (p (ldIndexed i))
-  pub bit : (i : Index) (c : ℕ) → T (p (bitRow i c (getD cb c gap)))
+  pub no-bit : (i : Index) → T (beside p i gap)
+  pub on-bit : (i : Index) → T (every (beside p i) cb)
 
 module _ (p : Row → Bool) (e : Everywhere p) where
   abbrev Holds : Row → Type 0
@@ -32,7 +45,7 @@ module _ (p : Row → Bool) (e : Everywhere p) where
   behind-holds : (i : Index) (b1 b2 b3 : ℕ) → Holds (behindRow i b1 b2 b3)
   unfolding behindRow
   behind-holds i b1 b2 b3 =
-      chosen Holds (eqb b1 0xCB) _ _ (e .bit i b3)
+      chosen Holds (eqb b1 0xCB) _ _ (bit-holds p i b3 (getD cb b3 gap) (at-code (beside p i) cb (e .on-bit i) (e .no-bit i) b3))
       (chosen Holds (eqb b1 0xEB) _ _ (e .none)
       (chosen Holds (eqb b1 0x36) _ _ (e .load i)
       (chosen Holds (eqb b1 0xED) _ _

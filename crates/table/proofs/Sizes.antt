@@ -14,15 +14,14 @@ use Rattle.opcode.specs.declared.record.OpCode.{OpCode}
 use Rattle.opcode.specs.Record.{unfilled, six, sum}
 use Rattle.table.specs.declared.Answer.{Answer}
 use Rattle.table.specs.declared.Decoded.{Decoded}
-use Rattle.table.specs.Row.{Index, ix, iy, Kind, none, Cycles, Row, row, gap, t1, states}
-use Rattle.table.specs.Departures.{oneFigure, ed-behind, needed, neededBehind}
+use Rattle.table.specs.Row.{ix, iy, Kind, none, Cycles, Row, row, gap, t1, states}
+use Rattle.table.specs.Departures.{oneFigure, needed, neededBehind}
 use Rattle.table.specs.Plain.{plain}
 use Rattle.table.specs.Cb.{cb}
 use Rattle.table.specs.Ed.{ed}
-use Rattle.table.specs.Prefix.{prefixRow, bitRow}
 use Rattle.table.specs.Decode.{isPrefix, rowOf, operandBytes, made, recordOf, four, neededOf, decodeOf}
 use Rattle.table.specs.Consequences.{Keeps, total}
-use Rattle.table.proofs.Pages.{both-left, both-right, every, chosen}
+use Rattle.table.proofs.Pages.{both-left, both-right}
 use Rattle.table.proofs.Rows.{Everywhere, row-holds}
 use Rattle.table.proofs.Done.{decides, decided}
 
@@ -42,20 +41,6 @@ sized (row i x y z n t) = leb 1 n && (leb n 4 && timed (oneFigure t))
 abbrev Sized : Row → Type 0
 Sized x = T (sized x)
 
-bit-sized : (i : Index) (c : ℕ) (x : Row) → Sized (bitRow i c x)
-bit-sized i c gap = tt
-bit-sized i c (row ins x y z n t) = chosen Sized (ltb c 0x40) _ _ tt (chosen Sized (ltb c 0x80) _ _ tt tt)
-
-behind-plain-sized : (i : Index) → T (every (λ (x : Row). sized (prefixRow i x)) plain)
-unfolding plain
-behind-plain-sized ix = tt
-behind-plain-sized iy = tt
-
-behind-ed-sized : (i : Index) → T (every (λ (x : Row). sized (prefixRow i (ed-behind x))) ed)
-unfolding ed
-behind-ed-sized ix = tt
-behind-ed-sized iy = tt
-
 all-sized : Everywhere sized
 unfolding plain cb ed
 all-sized =
@@ -64,10 +49,11 @@ all-sized =
       on-plain = tt;
       on-cb = tt;
       on-ed = tt;
-      behind-plain = behind-plain-sized;
-      behind-ed = behind-ed-sized;
+      behind-plain = λ i. elim i [ ix ↦ tt | iy ↦ tt ];
+      behind-ed = λ i. elim i [ ix ↦ tt | iy ↦ tt ];
       load = λ i. tt;
-      bit = λ i c. bit-sized i c (getD cb c gap);
+      no-bit = λ i. tt;
+      on-bit = λ i. tt;
     }
 
 row-sized : (s : List ℕ) → Sized (rowOf s)

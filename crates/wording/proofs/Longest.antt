@@ -1,12 +1,12 @@
 -- No text of a decoded record is longer than 52 bytes, and one is 52 long. A row's text is longest where each byte behind its code is 80 hex, so one computed test over the rows at these bytes is enough.
 -- Assumes nothing.
 use mathlib.Core.Path.{_≡_, refl, ap}
-use mathlib.Core.Bool.{Bool, true, _&&_, _||_}
+use mathlib.Core.Bool.{Bool, true, _||_}
 use mathlib.Core.List.{List, [], _∷_}
 use Prim.Native.Nat.{ℕ, zero, suc, _*_, _≤_, _<_}
 use native.Mathlib.Nat.{le-refl, le-trans}
 use native.Mathlib.Omega.{arith}
-use lib.Dec.{T, eqb, ltb, leb, leb→le}
+use lib.Dec.{eqb, leb, leb→le}
 use lib.IntN.{ℤ}
 use lib.ListN.{length, take, drop, getD, length-append, length-take}
 use borrow.Author.Tests.{leb-true}
@@ -14,15 +14,15 @@ use Rattle.opcode.specs.declared.instruction.Instruction.{Instruction}
 use Rattle.table.specs.declared.Answer.{Answer}
 use Rattle.table.specs.declared.Decoded.{Decoded}
 use Rattle.table.specs.Signed.{signedOf, relativeOf}
-use Rattle.table.specs.Row.{Index, ix, iy, Kind, none, is, hl, h, l, at-hl, byte, word, at-word, at-port, rel, at-index, byte-behind, Cycles, Row, row, gap, t1, read}
+use Rattle.table.specs.Row.{ix, iy, Kind, none, is, hl, h, l, at-hl, byte, word, at-word, at-port, rel, at-index, byte-behind, Cycles, Row, row, gap, t1, read}
 use Rattle.table.specs.Plain.{plain}
 use Rattle.table.specs.Cb.{cb}
 use Rattle.table.specs.Ed.{ed}
-use Rattle.table.specs.Prefix.{bitRow, behindRow}
+use Rattle.table.specs.Prefix.{behindRow}
 use Rattle.table.specs.Decode.{isPrefix, rowOf, operandBytes, made, recordOf, four, decodeOf}
 use Rattle.table.specs.Consequences.{values, AllBytes}
 use Rattle.table.proofs.Upto.{agree}
-use Rattle.table.proofs.Pages.{at-code, chosen, both-left, both-right}
+use Rattle.table.proofs.Pages.{chosen}
 use Rattle.table.proofs.Rows.{Everywhere, row-holds}
 use Rattle.table.proofs.Done.{decides}
 use Rattle.wording.specs.declared.Written.{Written}
@@ -94,19 +94,6 @@ row-most (row ins x y z n t) s d bytes size = made-most ins x y z n t s d bytes 
 abbrev fits : Row → Bool
 fits x = leb (length (fullText (recordOf x lowest zeros))) 52
 
--- a row of the CB page behind DD or FD, whichever of the three forms its code picks
-abbrev bit-test : Index → Row → Bool
-bit-test i x = fits (bitRow i 0 x) && (fits (bitRow i 0x40 x) && fits (bitRow i 0x80 x))
-
-bit-fits : (i : Index) (c : ℕ) (x : Row) → T (bit-test i x) → T (fits (bitRow i c x))
-bit-fits i c gap w = both-left (fits gap) _ w
-bit-fits i c (row ins x y z n t) w =
-    let a = fits (bitRow i 0 (row ins x y z n t)) in
-    let b = fits (bitRow i 0x40 (row ins x y z n t)) in
-    let rest = both-right a _ w in
-    chosen (λ (r : Row). T (fits r)) (ltb c 0x40) _ _ (both-left a _ w)
-    (chosen (λ (r : Row). T (fits r)) (ltb c 0x80) _ _ (both-left b _ rest) (both-right b _ rest))
-
 all-fit : Everywhere fits
 unfolding plain cb ed fullText plainText hex8 hex16 decimal digitAt signed signedOf relativeOf nameOf names reg8Text reg8Names reg16Text reg16Names conditionText conditionNames
 all-fit =
@@ -118,7 +105,8 @@ all-fit =
       behind-plain = λ i. elim i [ ix ↦ tt | iy ↦ tt ];
       behind-ed = λ i. elim i [ ix ↦ tt | iy ↦ tt ];
       load = λ i. elim i [ ix ↦ tt | iy ↦ tt ];
-      bit = λ i c. bit-fits i c (getD cb c gap) (at-code (bit-test i) cb (elim i [ ix ↦ tt | iy ↦ tt ]) tt c);
+      no-bit = λ i. tt;
+      on-bit = λ i. elim i [ ix ↦ tt | iy ↦ tt ];
     }
 
 -- bytes stay bytes behind the first ones
