@@ -11,6 +11,7 @@ use Rattle.marking.specs.Rules.{Look, Sane, Chart, entry, MarkValue, Ent
 use Rattle.marking.specs.Verdict.{numberOf, addressOf, InOrder, Lowest, Some, Broken, unfinished, clipped, stray, bad-next, AnyAt, Verdict}
 use Rattle.marking.specs.Check.{checkOf}
 use Rattle.marking.proofs.Tests.{less-or}
+use Rattle.marking.proofs.Passing.{shut-out}
 use Rattle.marking.proofs.Right.{check-right}
 
 -- the lowest is one
@@ -113,10 +114,7 @@ module _ (look : Look) (m : Chart) (es : List ℕ) where
   passes-verdict p = inr (p .image-size, inr (p .mark-size, inr (p .entry-count, inr (λ h. p .mark-value (h .0) (h .1), inr (λ h. p .entry-not-start (h .0) (h .1), inr (none, (refl, refl)))))))
     where
       none : Some (AnyAt look m) → ⊥
-      none (b, (_, unfinished u)) = p .unfinished b u
-      none (b, (_, clipped u)) = p .clipped b u
-      none (b, (_, stray u)) = p .stray b u
-      none (b, (_, bad-next u)) = p .bad-next b u
+      none (b, h) = shut-out look m b (p .unfinished b) (p .clipped b) (p .stray b) (p .bad-next b) h
 
 module _ (look : Look) (sane : Sane look) (m : Chart) (es : List ℕ) where
   -- the check's answer is the only one that fits

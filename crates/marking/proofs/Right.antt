@@ -14,7 +14,7 @@ use Rattle.marking.specs.declared.Entry.{Entry}
 use Rattle.marking.specs.Rules.{Look, Sane, Chart, entries, entry, mark, ImageSize, MarkSize, EntryCount, MarkValue, EntryNotStart}
 use Rattle.marking.specs.Verdict.{numberOf, addressOf, Lowest, Some, Verdict}
 use Rattle.marking.specs.Check.{firstOf, over, firstOver, isStart, wrongCount, notStart, firstEntry, firstBroken, entriesBy, checkOf}
-use Rattle.marking.proofs.Tests.{told, clash, equal-or, start-true, start-false}
+use Rattle.marking.proofs.Tests.{told, clash, same-size, start-true, start-false}
 use Rattle.marking.proofs.First.{First, first}
 use Rattle.marking.proofs.Passing.{PassRight, first-broken}
 
@@ -54,7 +54,7 @@ module _ (look : Look) (sane : Sane look) (m : Chart) (es : List ℕ) where
 
   module _ (not-5 : ImageSize m → ⊥) (not-6 : MarkSize m → ⊥) (not-7 : EntryCount es → ⊥) where
     same : length (m .marks) ≡ length (m .image)
-    same = ⊎-elim (λ e. e) (λ ne. absurd (not-6 ne)) (equal-or (length (m .marks)) (length (m .image)))
+    same = same-size m not-6
 
     -- 8: the first mark over 2 is the lowest
     abbrev top : ℕ

@@ -83,28 +83,11 @@ mod tests {
         let counted: Vec<_> = said.chunks(8).zip(COUNTS).collect();
         let seven = (7, 0);
         for (said, count) in counted {
+            let last = if count == 1 { 0x1180 } else { 0x11FF };
+            let wrong = [0x1180, 0x0FFF, last].map(|address| [(9, address), seven]);
             let expected = match count {
-                1 => [
-                    (0, 0),
-                    seven,
-                    (9, 0x1180),
-                    seven,
-                    (9, 0x0FFF),
-                    seven,
-                    (9, 0x1180),
-                    seven,
-                ],
-                2..=256 => [
-                    (0, 0),
-                    seven,
-                    (9, 0x1180),
-                    seven,
-                    (9, 0x0FFF),
-                    seven,
-                    (9, 0x11FF),
-                    seven,
-                ],
-                _ => [seven; 8],
+                1..=256 => [&[(0, 0), seven], wrong.as_flattened()].concat(),
+                _ => vec![seven; 8],
             };
             assert_eq!(said, expected, "{count}");
         }
