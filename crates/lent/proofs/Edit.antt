@@ -11,10 +11,13 @@ use mir.Syntax.{Name, Ty, Fn, named, mut, tyBool, tyRef, deref, field, place, co
 use mir.Val.{Val, vbool, vptr}
 use base.Logic.{SProp, ent, sep, emp, via, comm∗, fst∗, snd∗, exE, id⊢}
 use base.Fml.{GName, Lft, Share, ftrue, flft, fobs, fbor, fat}
-use prog.Wp.{Heap, Env, Calls, Loops, WpFn, Tables}
+use prog.Model.{Model}
+use prog.Routine.{Routine, Env as Bindings}
+use prog.Wp.{Heap, Env, Calls, Loops, WpFn, Tables, Closed}
 use ghost.Atoms.{Atoms, sem}
 use contract.Monad.{fact}
 use contract.Lifetimes.{Lfts}
+use contract.Running.{Running, GhostRules, givenOf, tables, tablesOf}
 use types.Kit.{Given, ‵, raw, some, later, _⊛_, _$_, _∵_, !, qed, by, move, keep, drop, use0, use1, use2, split, join, pick, rewrite, fsplit, fsplit3, fjoin, fjoin3, feqI, suffices, frame, await, done}
 use types.Run.{Opds, look, look-raw, init, store-raw, forget, stop, hop, fld, from, load, of-opd, and-then, assigns, land, returns, enter, alloc1, alloc0, params1, pass1, free1, free0}
 use types.Part.{whole, sub, look-in}
@@ -36,6 +39,7 @@ use denote.Triple.End.{all}
 use denote.Triple.Spec.{Meets, tripleOf}
 use denote.Triple.Statement.{Contract, Triple}
 use denote.Triple.Call.{calls-at}
+use denote.Triple.Table.{entered, cited}
 use denote.Triple.Clauses.{Clauses, Ended, atExit, closing, ensured, lasts}
 use denote.Triple.Walked.{Stays, stay-ref, hasOf, onExit, walkOf, goes-ref, Walks, ends-at, walked, walk-meets}
 use Rattle.opcode.specs.declared.record.OpCode.{OpCode}
@@ -182,3 +186,25 @@ module _ (Rs : List RattleType) where
                   returns ! (look ! 11 refl) $ forget ! 4 refl $ forget ! 7 refl $ forget ! 9 refl $ forget ! 11 refl $
                   move ! (11 ∷ 12 ∷ []) $ free1 ! $ move ! (9 ∷ 10 ∷ []) $ free1 ! $ move ! (3 ∷ []) $ free-all ! (mirs Rs) bs vs ok (rest 𝓤 H l₂ l₃) $ move ! (6 ∷ 7 ∷ []) $ free1 ! $ move ! (3 ∷ 5 ∷ []) $ free1 ! $ free0 ! $
                   keep ! (0 ∷ 1 ∷ 2 ∷ []) $ by ! (exits e (is ∙ ap (change h) (values-on 1 0 (κ, tt) tt Rs x))))))))))))))
+
+        -- how the parameters are spelled as machine values
+        module _ (sp : Spells Rs) (tells : Tellss Rs (Ises Rs) sp) (laws : Lawfuls 𝓤 H A Rs) where
+          walks : (C : Calls 𝓤 H) (Λ : Loops 𝓤 H) → FmC 𝓤 H (W .laws) C → Triple 𝓤 (C f) Asked → Walks 𝓤 H A lent stayed (WpFn 𝓤 H C Λ function) c
+          walks C Λ fm known = walked 𝓤 H A lent stayed c (WpFn 𝓤 H C Λ function) (λ κs. (ptr-vals, spelt 1 κs Rs sp)) (λ κs. (mut-tells (named 0) (κs .0) T.the-row, told 1 κs Rs sp tells))
+              (λ κs qs bounds a g are. via 𝓤 _ (fst∗ 𝓤 _ (c κs a .requires g)) (walk (κs .0) (qs .0) (a .0 .ptr .0) (a .0 .ptr .1) (a .0 .name) (a .0 .now) (a .1) (valss (rows 1 κs Rs) (spelt 1 κs Rs sp) (a .1)) (typed 1 κs 𝓤 H A Rs laws (a .1) _ (are .1)) g C Λ fm known))
+
+          meets : (𝓣 : Tables 𝓤 H) → Triple 𝓤 (𝓣 .C f) Asked → Meets 𝓤 H A (lent .signature) (WpFn 𝓤 H (𝓣 .C) (𝓣 .Λ) function) (closing 𝓤 H A lent c)
+          meets 𝓣 known =
+              walk-meets 𝓤 H A lent stayed W (goes-ref 𝓤 H A W 1 0 tt (plain (λ _. T.the-row)), going 1 𝓤 H A W Rs) c
+              (WpFn 𝓤 H (𝓣 .C) (𝓣 .Λ) function) (WpFn-mono 𝓤 H (W .laws) 𝓣 function) (walks (𝓣 .C) (𝓣 .Λ) (fmOf 𝓤 H (W .laws) 𝓣) known)
+
+-- the law: where the name k has that MIR, and f the edit by value, k meets the contract c
+pub edits : {M : Type 1} (𝓤 : URA M) (H : Heap 𝓤) (𝓜 : Model 𝓤 H) (𝓖 : GhostRules 𝓤 H) (𝓡 : Running 𝓤 H 𝓜)
+    (Rs : List RattleType) (sp : Spells Rs) → Tellss Rs (Ises Rs) sp → Lawfuls 𝓤 H (𝓖 .A) Rs
+    → (change : OpCode → Denots Rs → Edited) (c : Clauses 𝓤 (lent Rs)) → (f : Name) → Holds Rs f change 𝓤 H (𝓖 .A) c
+    → (γ : Bindings) (k : Name) → Closed 𝓤 H (tables 𝓤 H 𝓜 𝓡 γ .C) (tables 𝓤 H 𝓜 𝓡 γ .Λ) k (function Rs f) → (r : Routine) → γ f ≡ r → Triple 𝓤 (𝓡 .run r) (Asked Rs f change 𝓤 H (𝓖 .A))
+    → Meets 𝓤 H (𝓖 .A) (lent Rs .signature) (tables 𝓤 H 𝓜 𝓡 γ .C k) (closing 𝓤 H (𝓖 .A) (lent Rs) c)
+unfolding tablesOf
+edits 𝓤 H 𝓜 𝓖 𝓡 Rs sp tells laws change c f holds γ k closed r is known =
+    entered 𝓤 H (tripleOf 𝓤 H (𝓖 .A) (lent Rs .signature) (closing 𝓤 H (𝓖 .A) (lent Rs) c)) (tables 𝓤 H 𝓜 𝓡 γ .C) (tables 𝓤 H 𝓜 𝓡 γ .Λ) k (function Rs f) closed
+    (meets Rs f change 𝓤 H (𝓖 .A) c holds (givenOf 𝓤 H 𝓜 𝓖) sp tells laws (tablesOf 𝓤 H 𝓜 (tables 𝓤 H 𝓜 𝓡 γ)) (cited 𝓤 H (Asked Rs f change 𝓤 H (𝓖 .A)) 𝓜 𝓡 γ f r is known))

@@ -1,0 +1,25 @@
+-- `lent::tstates_extend` meets its contract, by the law of `Edit.antt`: the edit is `extendOf`, and it takes a `Timing`.
+-- Assumes nothing.
+use mathlib.Core.Path.{refl}
+use mathlib.Core.List.{[], _∷_}
+use base.Logic.{emp}
+use contract.Monad.{factI}
+use contract.Running.{givenOf}
+use denote.Struct.Laws as LL
+use Rattle.opcode.specs.Timing.{extendOf}
+use Rattle.opcode.proofs.timing.Timing as S
+use Rattle.opcode.proofs.timing.Timing.Laws as S′
+use Rattle.opcode.proofs.record.OpCode.tstates_extend.Symbol as by-value
+use Rattle.opcode.proofs.record.OpCode.tstates_extend.Met as by-value-thm
+use Rattle.lent.proofs.Edit.{edits}
+use Rattle.lent.proofs.tstates_extend as lent
+use Rattle.lent.proofs.tstates_extend.Key as key
+use Rattle.lent.proofs.tstates_extend.Statement as stated
+use Rattle.lent.proofs.tstates_extend.Code as code
+
+pub tstates-extend-spec : {M : Type 1} → stated.statement M
+unfolding code.routine
+tstates-extend-spec 𝓤 H 𝓜 𝓖 𝓡 =
+    edits 𝓤 H 𝓜 𝓖 𝓡 (S.the-row ∷ []) (LL.vals S.the-type S′.the-laws, tt) (LL.tells S.the-type S′.the-laws, tt) (LL.lawful S.the-type S′.the-laws 𝓤 H (𝓖 .A) (givenOf 𝓤 H 𝓜 𝓖), tt)
+    (λ r a. extendOf r (a .0)) (lent.clauses 𝓤 H (𝓖 .A) (𝓜 .mem) (𝓡 .run)) by-value.name (λ κs a g. factI 𝓤 _ (emp 𝓤) (refl, refl))
+    code.env key.name (code.unfolded 𝓤 H 𝓜 𝓡) by-value.routine code.calls-opcode·record·OpCode·tstates-extend (by-value-thm.met 𝓤 H 𝓜 𝓖 𝓡)
