@@ -20,7 +20,7 @@ use contract.Lifetimes.{Lfts}
 use contract.Running.{Running, GhostRules, givenOf, tables, tablesOf}
 use types.Kit.{Given, ‵, raw, some, later, _⊛_, _$_, _∵_, !, qed, by, move, keep, drop, use0, use1, use2, split, join, pick, rewrite, fsplit, fsplit3, fjoin, fjoin3, feqI, suffices, frame, await, done}
 use types.Run.{Opds, look, look-raw, init, store-raw, forget, stop, hop, fld, from, load, of-opd, and-then, assigns, land, returns, enter, alloc1, alloc0, params1, pass1, free1, free0}
-use types.Part.{whole, sub, look-in}
+use types.Part.{whole as all-of, sub, look-in}
 use types.SemTy.{Body}
 use sound.WpLaws.{FmC, fmOf, WpFn-mono}
 use denote.RattleType.{RattleType, Denots, Valss, mirs, flat, owns}
@@ -48,7 +48,7 @@ use Rattle.opcode.proofs.record.OpCode as T
 use Rattle.opcode.proofs.record.OpCode.Laws as T′
 use Rattle.opcode.proofs.timing.Edited as E
 use Rattle.opcode.proofs.timing.Edited.Laws as E′
-use Rattle.lent.proofs.Locals.{Blocks, declared, entries, copies, Placed, behind-two, in-front, at-end, cells, alloc-all, pass-all, free-all, at-local, opds-are, under, read-all}
+use Rattle.lent.proofs.Locals.{Blocks, declared, entries, copies, beyond, Placed, behind-two, whole, in-front, past, cells, alloc-all, pass-all, free-all, at-local, opds-are, under, read-all}
 use Rattle.lent.proofs.Plain.{slots, dropped, rows, values, spelt, told, typed, lasting, fitting, had, going, on, vals-on, values-on, flat-on, owns-on}
 
 -- the machine value of a record
@@ -77,7 +77,7 @@ module _ (Rs : List RattleType) where
   module _ (f : Name) where
     -- the locals of the answer and of the record that is passed
     abbrev answer : ℕ
-    answer = suc (suc (length (mirs Rs)))
+    answer = suc (suc (beyond (mirs Rs) zero))
 
     abbrev taken : ℕ
     taken = suc answer
@@ -109,7 +109,7 @@ module _ (Rs : List RattleType) where
       at-params l₀ l₁ bs l₂ l₃ = behind-two 𝓤 H (tyBool, l₀) (lentTy, l₁) (entries (mirs Rs) bs ++ rest l₂ l₃) zero (entries (mirs Rs) bs) (in-front 𝓤 H (mirs Rs) bs (rest l₂ l₃))
 
       at-rest : (l₀ l₁ : ℕ) (bs : Blocks (mirs Rs)) (l₂ l₃ : ℕ) → Placed 𝓤 H (env l₀ l₁ bs l₂ l₃) answer (rest l₂ l₃)
-      at-rest l₀ l₁ bs l₂ l₃ = behind-two 𝓤 H (tyBool, l₀) (lentTy, l₁) (entries (mirs Rs) bs ++ rest l₂ l₃) (length (mirs Rs)) (rest l₂ l₃) (at-end 𝓤 H (mirs Rs) bs (rest l₂ l₃))
+      at-rest l₀ l₁ bs l₂ l₃ = behind-two 𝓤 H (tyBool, l₀) (lentTy, l₁) (entries (mirs Rs) bs ++ rest l₂ l₃) (beyond (mirs Rs) zero) (rest l₂ l₃) (past 𝓤 H (mirs Rs) bs (rest l₂ l₃) zero (rest l₂ l₃) (whole 𝓤 H (rest l₂ l₃)))
 
     module _ (change : OpCode → Denots Rs → Edited) {M : Type 1} (𝓤 : URA M) (H : Heap 𝓤) (A : Atoms 𝓤) where
       -- the contract of the edit by value
@@ -179,8 +179,8 @@ module _ (Rs : List RattleType) where
                   peeks ! E.the-row (Is E.the-row) (shows 𝓤 H A E.the-row) e (w ∷ []) (λ e-is. drop ! $
                   -- [the parameters; the record passed; the record's cell; the open borrow; obs; auth; true; …; room for the answer; …; rec; …; room for the result; …]
                   land ! (at-local ! (at-rest 𝓤 H l₀ l₁ bs l₂ l₃ .0) (stop !)) (init ! 8 refl (LL.lawful E.the-type E′.the-laws 𝓤 H A W .typed e _ e-is .0)) $ rewrite ! 8 (λ (u : Val). ‵ (fat fullShare E′.mir l₂ 0 u)) (ap only (LL.tells E.the-type E′.the-laws e _ e-is)) refl $
-                  assigns ! (of-opd ! (load ! (at-local ! (at-rest 𝓤 H l₀ l₁ bs l₂ l₃ .0) (fld ! refl (stop !))) (look-in ! 8 (sub ! 1 refl (whole !))))) (from ! (hop ! (look ! 10 refl) (stop !))) (store-raw ! 2 refl (LL.lawful T.the-type T′.the-laws 𝓤 H A W .typed (e .rec) _ (inner e _ e-is) .0)) $
-                  assigns ! (of-opd ! (load ! (at-local ! (at-rest 𝓤 H l₀ l₁ bs l₂ l₃ .0) (fld ! refl (stop !))) (look-in ! 8 (sub ! 0 refl (whole !))))) (from ! (stop !)) (init ! 12 refl (tt, tt)) $
+                  assigns ! (of-opd ! (load ! (at-local ! (at-rest 𝓤 H l₀ l₁ bs l₂ l₃ .0) (fld ! refl (stop !))) (look-in ! 8 (sub ! 1 refl (all-of !))))) (from ! (hop ! (look ! 10 refl) (stop !))) (store-raw ! 2 refl (LL.lawful T.the-type T′.the-laws 𝓤 H A W .typed (e .rec) _ (inner e _ e-is) .0)) $
+                  assigns ! (of-opd ! (load ! (at-local ! (at-rest 𝓤 H l₀ l₁ bs l₂ l₃ .0) (fld ! refl (stop !))) (look-in ! 8 (sub ! 0 refl (all-of !))))) (from ! (stop !)) (init ! 12 refl (tt, tt)) $
                   -- the borrow is closed at the record of the answer
                   owned ! T.the-row (Is T.the-row) (LL.makes T.the-type T′.the-plain 𝓤 H A) (e .rec) _ (inner e _ e-is) $ move ! (3 ∷ 0 ∷ 4 ∷ 5 ∷ 6 ∷ []) $ closes ! tt T.the-row (e .rec) (rv (e .rec) ∷ []) b o $
                   returns ! (look ! 11 refl) $ forget ! 4 refl $ forget ! 7 refl $ forget ! 9 refl $ forget ! 11 refl $
