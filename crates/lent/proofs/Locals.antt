@@ -112,9 +112,12 @@ module _ {M : Type 1} {𝓤 : URA M} {H : Heap 𝓤} {A : Atoms 𝓤} {K : Type 
   pub opds-are : {Γ : List (Item 𝓤)} {E : Env 𝓤 H} {xs : List Operand} {us vs : List Val} → us ≡ vs → Opds K W Γ E xs us → Opds K W Γ E xs vs
   opds-are {Γ} {E} {xs} e os = subst (λ (ws : List Val). Opds K W Γ E xs ws) e os
 
-  -- the entry behind the head is read first
+  -- an entry behind the first, or behind the first two, is read as the head is
   pub under : {Γ : List (Item 𝓤)} {i j : Item 𝓤} {E : Env 𝓤 H} {xs : List Operand} {vs : List Val} → Opds K W (j ∷ i ∷ Γ) E xs vs → Opds K W (i ∷ j ∷ Γ) E xs vs
-  under {Γ} {i} {j} os = opds-alike (qed W (i ∷ j ∷ Γ) ∵ move ! (1 ∷ 0 ∷ []) $ done !) (qed W (j ∷ i ∷ Γ) ∵ move ! (1 ∷ 0 ∷ []) $ done !) os
+  under {Γ} {i} {j} = opds-alike (qed W (i ∷ j ∷ Γ) ∵ move ! (1 ∷ 0 ∷ []) $ done !) (qed W (j ∷ i ∷ Γ) ∵ move ! (1 ∷ 0 ∷ []) $ done !)
+
+  pub under-two : {Γ : List (Item 𝓤)} {h i j : Item 𝓤} {E : Env 𝓤 H} {xs : List Operand} {vs : List Val} → Opds K W (j ∷ h ∷ i ∷ Γ) E xs vs → Opds K W (h ∷ i ∷ j ∷ Γ) E xs vs
+  under-two {Γ} {h} {i} {j} = opds-alike (qed W (h ∷ i ∷ j ∷ Γ) ∵ move ! (2 ∷ 0 ∷ 1 ∷ []) $ done !) (qed W (j ∷ h ∷ i ∷ Γ) ∵ move ! (1 ∷ 2 ∷ 0 ∷ []) $ done !)
 
   pub read-all : K → {Γ : List (Item 𝓤)} {E : Env 𝓤 H} (τs : List Ty) (bs : Blocks τs) (vs : List Val) → Typed τs vs → (i : ℕ) → Placed 𝓤 H E i (entries τs bs) → Opds K W (cells τs bs vs ∷ Γ) E (copies i τs) vs
   read-all t [] bs [] ok i p = no-more t

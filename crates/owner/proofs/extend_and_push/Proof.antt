@@ -1,0 +1,30 @@
+-- `owner::extend_and_push` meets its contract, by the law of `Owning.antt`: the edits are `extendOf` and `pushOf`.
+-- Assumes nothing.
+use mathlib.Core.Path.{refl}
+use mathlib.Core.List.{[], _∷_}
+use base.Logic.{emp}
+use contract.Monad.{factI}
+use contract.Running.{givenOf}
+use denote.Struct.Laws as LL
+use Rattle.opcode.specs.Timing.{extendOf, pushOf}
+use Rattle.opcode.proofs.timing.Timing as X
+use Rattle.opcode.proofs.timing.Timing.Laws as X′
+use Rattle.opcode.proofs.counts.TStates as S
+use Rattle.opcode.proofs.counts.TStates.Laws as S′
+use Rattle.lent.proofs.tstates_extend.Symbol as first
+use Rattle.lent.proofs.tstates_extend.Met as first-thm
+use Rattle.lent.proofs.tstates_push.Symbol as second
+use Rattle.lent.proofs.tstates_push.Met as second-thm
+use Rattle.owner.proofs.Owning.{owns-and-lends}
+use Rattle.owner.proofs.extend_and_push as owner
+use Rattle.owner.proofs.extend_and_push.Key as key
+use Rattle.owner.proofs.extend_and_push.Statement as stated
+use Rattle.owner.proofs.extend_and_push.Code as code
+
+pub extend-and-push-spec : {M : Type 1} → stated.statement M
+unfolding code.routine
+extend-and-push-spec 𝓤 H 𝓜 𝓖 𝓡 =
+    let W = givenOf 𝓤 H 𝓜 𝓖 in
+    owns-and-lends 𝓤 H 𝓜 𝓖 𝓡 (X.the-row ∷ []) (S.the-row ∷ []) (LL.vals X.the-type X′.the-laws, (LL.vals S.the-type S′.the-laws, tt)) (LL.tells X.the-type X′.the-laws, (LL.tells S.the-type S′.the-laws, tt)) (LL.lawful X.the-type X′.the-laws 𝓤 H (𝓖 .A) W, tt) (LL.lawful S.the-type S′.the-laws 𝓤 H (𝓖 .A) W, tt)
+    (λ r a. extendOf r (a .0)) (λ r a. pushOf r (a .0)) (owner.clauses 𝓤 H (𝓖 .A) (𝓜 .mem) (𝓡 .run)) first.name second.name (λ κs a g. factI 𝓤 _ (emp 𝓤) refl)
+    code.env key.name (code.unfolded 𝓤 H 𝓜 𝓡) first.routine code.calls-lent·tstates-extend (first-thm.met 𝓤 H 𝓜 𝓖 𝓡) second.routine code.calls-lent·tstates-push (second-thm.met 𝓤 H 𝓜 𝓖 𝓡)
