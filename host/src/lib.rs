@@ -1,9 +1,11 @@
 //! The Rust side: the original decoder, its answers in the project's numbers, and the exported functions held to them.
 
-/// The original, compiled from its unchanged source.
-#[path = "../../docs/src/disas.rs"]
-#[rustfmt::skip]
-pub mod original;
+/// The original, compiled from its unchanged source; inside it the module that calls its private edits.
+pub mod original {
+    include!("../../docs/src/disas.rs");
+
+    pub mod edits;
+}
 
 pub mod answer;
 pub mod asked;
