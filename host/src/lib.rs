@@ -10,6 +10,8 @@ pub mod original {
 pub mod answer;
 pub mod asked;
 pub mod calls;
+pub mod edit_requests;
+pub mod edit_rows;
 pub mod exported;
 pub mod flow;
 pub mod function;

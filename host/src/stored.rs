@@ -1,6 +1,6 @@
 //! The stored runs of programs: what each reads, and what the original has it print.
 
-use crate::{list_rows, replay_rows};
+use crate::{edit_rows, list_rows, replay_rows};
 
 /// A part of what a program reads, and what it prints for that.
 #[derive(Clone)]
@@ -21,11 +21,15 @@ pub fn stored() -> Vec<Stored> {
         folder: "replay",
         rows: replay_rows::rows(),
     };
+    let edits = Stored {
+        folder: "edits",
+        rows: edit_rows::rows(),
+    };
     let lists = list_rows::images().map(|(folder, image)| Stored {
         folder,
         rows: list_rows::rows(&image),
     });
-    [replay].into_iter().chain(lists).collect()
+    [replay, edits].into_iter().chain(lists).collect()
 }
 
 impl Stored {
