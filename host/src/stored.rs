@@ -40,3 +40,21 @@ impl Stored {
         [("stdin", requests.collect()), ("stdout", lines.collect())]
     }
 }
+
+#[cfg(test)]
+mod tests {
+    use super::*;
+    use std::collections::BTreeSet;
+    use std::fs;
+
+    /// So that no stored file goes unchecked.
+    #[test]
+    fn every_folder_that_has_a_run() {
+        let crates = concat!(env!("CARGO_MANIFEST_DIR"), "/../crates");
+        let entries = fs::read_dir(crates).unwrap().map(Result::unwrap);
+        let with_run = entries.filter(|entry| entry.path().join("stdout").exists());
+        let found: BTreeSet<_> = with_run.map(|entry| entry.file_name()).collect();
+        let named: BTreeSet<_> = stored().iter().map(|run| run.folder.into()).collect();
+        assert_eq!(found, named);
+    }
+}
