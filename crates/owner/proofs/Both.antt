@@ -45,7 +45,7 @@ module _ (n : ℕ) (κs : Lfts n) (Qs : List RattleType) where
   pub owns-both : {M : Type 1} (𝓤 : URA M) (H : Heap 𝓤) (A : Atoms 𝓤) (Rs : List RattleType) (a : Denots (rows n κs (Rs ++ Qs))) (vss : Valss (rows n κs (Rs ++ Qs)))
       → ent 𝓤 (sem 𝓤 H A (owns (rows n κs (Rs ++ Qs)) a vss)) (sep 𝓤 (sem 𝓤 H A (owns (rows n κs Rs) (fore Rs a) (vals-fore Rs vss))) (sem 𝓤 H A (owns (rows n κs Qs) (aft Rs a) (vals-aft Rs vss))))
   owns-both 𝓤 H A [] a vss = emp∗ 𝓤 _
-  owns-both 𝓤 H A (R ∷ Rs) a vss = 
+  owns-both 𝓤 H A (R ∷ Rs) a vss =
       let P : SProp 𝓤 = sem 𝓤 H A (R .own (a .0) (vss .0)) in
       let X : SProp 𝓤 = sem 𝓤 H A (owns (rows n κs Rs) (fore Rs (a .1)) (vals-fore Rs (vss .1))) in
       let Y : SProp 𝓤 = sem 𝓤 H A (owns (rows n κs Qs) (aft Rs (a .1)) (vals-aft Rs (vss .1))) in

@@ -180,7 +180,7 @@ module _ (Ps Qs : List RattleType) where
               land ! (at-local ! (at .1 .1 .0) (stop !)) (init ! 9 refl (answered w′ (e₂ .ok) (said′ .0))) $ rewrite ! 9 (λ (u : Val). ‵ (fat fullShare tyBool l₄ 0 u)) (said′ .0) refl $
               assigns ! (of-opd ! (load ! (at-local ! (at .0) (stop !)) (look ! 0 refl))) (at-local ! (at .1 .1 .1 .1 .1 .0) (stop !)) (init ! 3 refl (LL.lawful T.the-type T′.the-laws 𝓤 H A W .typed (e₂ .rec) _ (said′ .1) .0)) $
               assigns ! (agg ! (and-then ! (load ! (at-local ! (at .1 .0) (stop !)) (look ! 11 refl)) (and-then ! (load ! (at-local ! (at .1 .1 .0) (stop !)) (look ! 9 refl)) (and-then ! (load ! (at-local ! (at .1 .1 .1 .1 .1 .0) (stop !)) (look ! 3 refl)) (no-more !))))) (from ! (stop !))
-                (init ! 16 refl (LL.lawful B.the-type B′.the-laws 𝓤 H A W .typed (Left a) _ (left-is (said′ .1)) .0)) $
+              (init ! 16 refl (LL.lawful B.the-type B′.the-laws 𝓤 H A W .typed (Left a) _ (left-is (said′ .1)) .0)) $
               returns ! (look ! 16 refl) $ forget ! 0 refl $ forget ! 3 refl $ forget ! 5 refl $ forget ! 7 refl $ forget ! 9 refl $ forget ! 11 refl $ forget ! 14 refl $ forget ! 16 refl $
               move ! (16 ∷ 17 ∷ []) $ free1 ! $ move ! (14 ∷ 15 ∷ []) $ free1 ! $ move ! (2 ∷ []) $ free-all ! (mirs Ps) bs vs₁ ok₁ (entries (mirs Qs) ds ++ es) $ move ! (1 ∷ []) $ free-all ! (mirs Qs) ds vs₂ ok₂ es $
               move ! (0 ∷ 11 ∷ []) $ free1 ! $ move ! (8 ∷ 9 ∷ []) $ free1 ! $ move ! (6 ∷ 7 ∷ []) $ free1 ! $ move ! (4 ∷ 5 ∷ []) $ free1 ! $ move ! (2 ∷ 3 ∷ []) $ free1 ! $ free1 ! $ free0 ! $
