@@ -1,5 +1,6 @@
 // Replays the original's edits: for each request on standard input its line on standard output, as README.md says.
 ghost use mathlib.Core.Path.{_≡_};
+ghost use lib.ListN.{length};
 ghost use Rattle.edits.specs.Edits.{editsOf};
 use layout::layout;
 use libc::STDIN_FILENO;
@@ -102,25 +103,24 @@ fn write_line(request: &[u8], left: Twice) {
     io::write_all(STDOUT_FILENO, &line);
 }
 
-// Answers the next request and says whether to go on: one that is cut off ends the run.
-fn answer_next() -> bool {
-    let mut r = [0u8; REQUEST_SIZE];
-    let got = io::read_full(STDIN_FILENO, &mut r);
-    if got < REQUEST_SIZE {
-        return false;
-    }
+// A request is answered in one line.
+fn answer(r: &[u8])
+    requires { ⌜ length (now r) ≡ 17 ⌝ }
+{
     let held = timing([r[1], r[2], r[3], r[4], r[5], r[6], r[7]]);
     let more = timing([r[8], r[9], r[10], r[11], r[12], r[13], r[14]]);
     let left = edited(r[0], record(held), more, r[15], r[16]);
-    write_line(&r, left);
-    true
+    write_line(r, left);
 }
 
-// A proved loop has to end, and nothing says that the input does: it counts down from a number that no run uses up.
+// All requests of the input, of which the first 65,536 bytes are read; one that is cut off is not answered.
 fn answer_all() {
-    let mut turns = u64::MAX;
-    while turns > 0 && answer_next() {
-        turns -= 1;
+    let mut input = io::large_buffer();
+    let got = io::read_full(STDIN_FILENO, &mut input);
+    let mut at = 0;
+    while REQUEST_SIZE <= got - at {
+        answer(&input[at..at + REQUEST_SIZE]);
+        at += REQUEST_SIZE;
     }
 }
 

@@ -1,13 +1,14 @@
--- `answer_all` is safe and ends: the turns that are left fall. Nothing has to hold from turn to turn, so the invariant is `Unit {0}`, the fact that says nothing. Assumes nothing.
+-- `answer_all` is safe and ends: the requests that are left of the input fall. Assumes nothing.
+use Prim.Native.Nat.{_≤_, _-_}
 use borrow.Author.Needs.{needs}
 use Rattle.edits.proofs.answer_all.Statement.{statement}
 use Rattle.edits.proofs.answer_all.Tie as tie
 
 abbrev Inv-loop : tie.InvT-loop
-Inv-loop turns₀ turns = Unit {0}
+Inv-loop input got at₀ at = (at ≤ got) × (got ≤ 65536)
 
 abbrev μ-loop : tie.MeasureT-loop
-μ-loop turns₀ turns = turns
+μ-loop input got at₀ at = got - at
 
 pub answer-all-spec : {M : Type 1} → statement M
 answer-all-spec =
@@ -15,10 +16,17 @@ answer-all-spec =
     (tie.spec
     Inv-loop
     μ-loop
-    (λ c. tt)
-    (λ c κs. tt)
+    (λ c κs. search needs)
+    (λ c. search needs)
+    (λ c κs. search needs)
     (λ c. search needs)
     (λ c. search needs)
-    (λ c. tt)
-    (λ c. tt)
-    (λ c. tt))
+    (λ c. search needs)
+    (λ c. search needs)
+    (λ c. search needs)
+    (λ c. search needs)
+    (λ c κs. search needs)
+    (λ c. search needs)
+    (λ c. search needs)
+    (λ c. search needs)
+    (λ c. search needs))
