@@ -55,13 +55,13 @@ use Rattle.lent.proofs.Plain.{slots, dropped, rows, values, spelt, told
 abbrev pub rv : OpCode → Val
 rv = LL.val T.the-type T′.the-laws
 
--- the MIR type of a lent record
-abbrev lentTy : Ty
-lentTy = tyRef (named 0) mut (pointee (T.the-row .written))
-
 -- what whoever holds the answer knows of its record
 inner : (e : Edited) (vs : List Val) → Is E.the-row e vs → Is T.the-row (e .rec) (rv (e .rec) ∷ [])
 inner e vs is = LL.owed E.the-type E′.the-laws e vs is .1 .0
+
+-- the MIR type of a lent record
+abbrev lentTy : Ty
+lentTy = tyRef (named 0) mut (pointee (T.the-row .written))
 
 module _ (Rs : List RattleType) where
   -- the signatures of the edit by value and of the lent one
@@ -179,8 +179,8 @@ module _ (Rs : List RattleType) where
                   peeks ! E.the-row (Is E.the-row) (shows 𝓤 H A E.the-row) e (w ∷ []) (λ e-is. drop ! $
                   -- [the parameters; the record passed; the record's cell; the open borrow; obs; auth; true; …; room for the answer; …; rec; …; room for the result; …]
                   land ! (at-local ! (at-rest 𝓤 H l₀ l₁ bs l₂ l₃ .0) (stop !)) (init ! 8 refl (LL.lawful E.the-type E′.the-laws 𝓤 H A W .typed e _ e-is .0)) $ rewrite ! 8 (λ (u : Val). ‵ (fat fullShare E′.mir l₂ 0 u)) (ap only (LL.tells E.the-type E′.the-laws e _ e-is)) refl $
-                  assigns ! (of-opd ! (load ! (at-local ! (at-rest 𝓤 H l₀ l₁ bs l₂ l₃ .0) (fld ! refl (stop !))) (look-in ! 8 (sub ! 1 refl (all-of !))))) (from ! (hop ! (look ! 10 refl) (stop !))) (store-raw ! 2 refl (LL.lawful T.the-type T′.the-laws 𝓤 H A W .typed (e .rec) _ (inner e _ e-is) .0)) $
-                  assigns ! (of-opd ! (load ! (at-local ! (at-rest 𝓤 H l₀ l₁ bs l₂ l₃ .0) (fld ! refl (stop !))) (look-in ! 8 (sub ! 0 refl (all-of !))))) (from ! (stop !)) (init ! 12 refl (tt, tt)) $
+                  assigns ! (of-opd ! (load ! (at-local ! (at-rest 𝓤 H l₀ l₁ bs l₂ l₃ .0) (fld ! {τ = T′.mir} {d = 2} refl (stop !))) (look-in ! 8 (sub ! 1 {τ = T′.mir} {d = 2} refl (all-of !))))) (from ! (hop ! (look ! 10 refl) (stop !))) (store-raw ! 2 refl (LL.lawful T.the-type T′.the-laws 𝓤 H A W .typed (e .rec) _ (inner e _ e-is) .0)) $
+                  assigns ! (of-opd ! (load ! (at-local ! (at-rest 𝓤 H l₀ l₁ bs l₂ l₃ .0) (fld ! {τ = tyBool} {d = 0} refl (stop !))) (look-in ! 8 (sub ! 0 {τ = tyBool} {d = 0} refl (all-of !))))) (from ! (stop !)) (init ! 12 refl (tt, tt)) $
                   -- the borrow is closed at the record of the answer
                   owned ! T.the-row (Is T.the-row) (LL.makes T.the-type T′.the-plain 𝓤 H A) (e .rec) _ (inner e _ e-is) $ move ! (3 ∷ 0 ∷ 4 ∷ 5 ∷ 6 ∷ []) $ closes ! tt T.the-row (e .rec) (rv (e .rec) ∷ []) b o $
                   returns ! (look ! 11 refl) $ forget ! 4 refl $ forget ! 7 refl $ forget ! 9 refl $ forget ! 11 refl $
