@@ -7,7 +7,7 @@ use opcode::timing::Timing;
 
 // Puts `more` in before place pos, from 0 to the count.
 pub fn tstates_insert(rec: &mut OpCode, pos: usize, more: Timing) -> bool
-    ensures { λ ok. ⌜ Leaves (insertOf (now (rec .entry)) pos more) ok (now (rec .exit)) ⌝ }
+    ensures { λ ok. ⌜ Leaves (λ r. insertOf r pos more) (now (rec .entry)) ok (now (rec .exit)) ⌝ }
 {
     let edited = OpCode::tstates_insert(*rec, pos, more);
     *rec = edited.rec;
@@ -16,7 +16,7 @@ pub fn tstates_insert(rec: &mut OpCode, pos: usize, more: Timing) -> bool
 
 // Puts `more` behind the filled places.
 pub fn tstates_extend(rec: &mut OpCode, more: Timing) -> bool
-    ensures { λ ok. ⌜ Leaves (extendOf (now (rec .entry)) more) ok (now (rec .exit)) ⌝ }
+    ensures { λ ok. ⌜ Leaves (λ r. extendOf r more) (now (rec .entry)) ok (now (rec .exit)) ⌝ }
 {
     let edited = OpCode::tstates_extend(*rec, more);
     *rec = edited.rec;
@@ -25,7 +25,7 @@ pub fn tstates_extend(rec: &mut OpCode, more: Timing) -> bool
 
 // Adds one machine cycle.
 pub fn tstates_push(rec: &mut OpCode, t: TStates) -> bool
-    ensures { λ ok. ⌜ Leaves (pushOf (now (rec .entry)) t) ok (now (rec .exit)) ⌝ }
+    ensures { λ ok. ⌜ Leaves (λ r. pushOf r t) (now (rec .entry)) ok (now (rec .exit)) ⌝ }
 {
     let edited = OpCode::tstates_push(*rec, t);
     *rec = edited.rec;
@@ -34,7 +34,7 @@ pub fn tstates_push(rec: &mut OpCode, t: TStates) -> bool
 
 // Takes place pos out, from 0 to the count less 1.
 pub fn tstates_remove(rec: &mut OpCode, pos: usize) -> bool
-    ensures { λ ok. ⌜ Leaves (removeOf (now (rec .entry)) pos) ok (now (rec .exit)) ⌝ }
+    ensures { λ ok. ⌜ Leaves (λ r. removeOf r pos) (now (rec .entry)) ok (now (rec .exit)) ⌝ }
 {
     let edited = OpCode::tstates_remove(*rec, pos);
     *rec = edited.rec;

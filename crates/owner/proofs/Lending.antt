@@ -57,7 +57,7 @@ module _ {M : Type 1} (𝓤 : URA M) (H : Heap 𝓤) (A : Atoms 𝓤) (W : Given
 module _ (Rs : List RattleType) (change : OpCode → Denots Rs → Edited) {M : Type 1} (𝓤 : URA M) (H : Heap 𝓤) (A : Atoms 𝓤) where
   -- the contract of an edit of a lent record
   abbrev pub leaves : Clauses 𝓤 (lent Rs)
-  leaves κs a = record { ghost = Unit {0}; requires = λ _. emp 𝓤; ensures = λ _ ok end. fact 𝓤 (Leaves (change (now (a .0)) (values 1 κs Rs (a .1))) ok (now (end .0))) }
+  leaves κs a = record { ghost = Unit {0}; requires = λ _. emp 𝓤; ensures = λ _ ok end. fact 𝓤 (Leaves (λ r. change r (values 1 κs Rs (a .1))) (now (a .0)) ok (now (end .0))) }
 
   abbrev pub Lent : Contract 𝓤
   Lent = tripleOf 𝓤 H A (lent Rs .signature) (closing 𝓤 H A (lent Rs) leaves)
@@ -89,9 +89,9 @@ module _ (Rs : List RattleType) (change : OpCode → Denots Rs → Edited) {M : 
       regain w =
           qed W (raw (Lent .post to w) ∷ ‵ (flent (ν ∷ []) (Body (mem T.the-row) l 0 δ)) ∷ []) ∵ updating ! $
           use1 W (later (some (λ (ok : Bool). ((‵ (flft (ν ∷ []) fullShare) ⊛ ‵ ftrue) ⊛ ‵ (bool .own ok (w ∷ []))) ⊛ raw (ensured 𝓤 H A (lent Rs) leaves (ν ∷ [], tt) (to .0 .3) tt ok)))) (id⊢ 𝓤 _) $ await ! tt $ pick ! (λ ok.
-          split ! $ move ! (1 ∷ []) $ use1 W (some (λ (ws : Lasts (lent Rs) (ν ∷ [], tt) (to .0 .3)). ‵ (lasts (lent Rs) (ν ∷ [], tt) (to .0 .3) ws) ⊛ raw (fact 𝓤 (Leaves (change h (values 1 (ν ∷ [], tt) Rs (to .0 .3 .1))) ok (ws .0))))) (id⊢ 𝓤 _) $ pick ! (λ ws.
-          split ! $ move ! (1 ∷ []) $ heard ! (Leaves (change h (values 1 (ν ∷ [], tt) Rs (to .0 .3 .1))) ok (ws .0)) (λ said. fsplit ! $
-          let e : Leaves done-with ok (ws .0) = subst (λ (z : Denots Rs). Leaves (change h z) ok (ws .0)) (values-on 0 1 tt (ν ∷ [], tt) Rs a) said in
+          split ! $ move ! (1 ∷ []) $ use1 W (some (λ (ws : Lasts (lent Rs) (ν ∷ [], tt) (to .0 .3)). ‵ (lasts (lent Rs) (ν ∷ [], tt) (to .0 .3) ws) ⊛ raw (fact 𝓤 (Leaves (λ r. change r (values 1 (ν ∷ [], tt) Rs (to .0 .3 .1))) h ok (ws .0))))) (id⊢ 𝓤 _) $ pick ! (λ ws.
+          split ! $ move ! (1 ∷ []) $ heard ! (Leaves (λ r. change r (values 1 (ν ∷ [], tt) Rs (to .0 .3 .1))) h ok (ws .0)) (λ said. fsplit ! $
+          let e : Leaves (λ r. change r (values 0 tt Rs a)) h ok (ws .0) = subst (λ (z : Denots Rs). Leaves (λ r. change r z) h ok (ws .0)) (values-on 0 1 tt (ν ∷ [], tt) Rs a) said in
           rewrite ! 0 (λ (d : OpCode). ‵ (fres δ (T.the-row .coded .code d))) (e .1) refl $
           -- [the last record; what is said of the parameters; the token and the answer; what is lent]
           move ! (2 ∷ []) $ split ! $ split ! $ lft-end ! tt $ move ! (2 ∷ []) $ peeks ! bool (Is bool) (shows 𝓤 H A bool) ok (w ∷ []) (λ is. move ! (1 ∷ 5 ∷ 3 ∷ []) $

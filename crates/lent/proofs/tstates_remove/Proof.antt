@@ -8,7 +8,9 @@ use contract.Monad.{factI}
 use contract.Running.{givenOf}
 use denote.Builtin.{usize}
 use denote.Plain.{uint-vals, uint-tells, uint-lawful}
+use denote.Ref.{now}
 use Rattle.opcode.specs.Timing.{removeOf}
+use Rattle.opcode.proofs.Rules.{remove-kept}
 use Rattle.opcode.proofs.record.OpCode.tstates_remove.Symbol as by-value
 use Rattle.opcode.proofs.record.OpCode.tstates_remove.Met as by-value-thm
 use Rattle.lent.proofs.Edit.{edits}
@@ -21,5 +23,5 @@ pub tstates-remove-spec : {M : Type 1} → stated.statement M
 unfolding code.routine
 tstates-remove-spec 𝓤 H 𝓜 𝓖 𝓡 =
     edits 𝓤 H 𝓜 𝓖 𝓡 (usize ∷ []) (uint-vals w64, tt) (uint-tells w64, tt) (uint-lawful 𝓤 H (𝓖 .A) (givenOf 𝓤 H 𝓜 𝓖) w64, tt)
-    (λ r a. removeOf r (a .0)) (lent.clauses 𝓤 H (𝓖 .A) (𝓜 .mem) (𝓡 .run)) by-value.name (λ κs a g. factI 𝓤 _ (emp 𝓤) (refl, refl))
+    (λ r a. removeOf r (a .0)) (lent.clauses 𝓤 H (𝓖 .A) (𝓜 .mem) (𝓡 .run)) by-value.name (λ κs a g. factI 𝓤 _ (emp 𝓤) (refl, refl, remove-kept (now (a .0)) (a .1 .0)))
     code.env key.name (code.unfolded 𝓤 H 𝓜 𝓡) by-value.routine code.calls-opcode·record·OpCode·tstates-remove (by-value-thm.met 𝓤 H 𝓜 𝓖 𝓡)
