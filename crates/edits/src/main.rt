@@ -28,7 +28,9 @@ const REQUEST_SIZE: usize = 17;
 const LINE_SIZE: usize = 123;
 
 // The T-states of a request, six bytes and a count.
-fn timing(b: [u8; 7]) -> Timing {
+fn timing(b: &[u8]) -> Timing
+    requires { ⌜ length (now b) ≡ 7 ⌝ }
+{
     Timing {
         tstates: [
             TStates(b[0]),
@@ -107,8 +109,8 @@ fn write_line(request: &[u8], left: Twice) {
 fn answer(r: &[u8])
     requires { ⌜ length (now r) ≡ 17 ⌝ }
 {
-    let held = timing([r[1], r[2], r[3], r[4], r[5], r[6], r[7]]);
-    let more = timing([r[8], r[9], r[10], r[11], r[12], r[13], r[14]]);
+    let held = timing(&r[1..8]);
+    let more = timing(&r[8..15]);
     let left = edited(r[0], record(held), more, r[15], r[16]);
     write_line(r, left);
 }
