@@ -116,7 +116,7 @@ fn answer(r: &[u8])
 }
 
 // All requests of the input, of which the first 65,536 bytes are read; one that is cut off is not answered.
-fn answer_all() {
+fn main() {
     let mut input = io::large_buffer();
     let got = io::read_full(STDIN_FILENO, &mut input);
     let mut at = 0;
@@ -124,8 +124,4 @@ fn answer_all() {
         answer(&input[at..at + REQUEST_SIZE]);
         at += REQUEST_SIZE;
     }
-}
-
-fn main() {
-    answer_all();
 }

@@ -1,8 +1,8 @@
--- `answer_all` is safe and ends: the requests that are left of the input fall. Assumes nothing.
+-- `main` is safe and ends: the requests that are left of the input fall. Assumes nothing.
 use Prim.Native.Nat.{_≤_, _-_}
 use borrow.Author.Needs.{needs}
-use Rattle.edits.proofs.answer_all.Statement.{statement}
-use Rattle.edits.proofs.answer_all.Tie as tie
+use Rattle.edits.proofs.main.Statement.{statement}
+use Rattle.edits.proofs.main.Tie as tie
 
 abbrev Inv-loop : tie.InvT-loop
 Inv-loop input got at₀ at = (at ≤ got) × (got ≤ 65536)
@@ -10,8 +10,8 @@ Inv-loop input got at₀ at = (at ≤ got) × (got ≤ 65536)
 abbrev μ-loop : tie.MeasureT-loop
 μ-loop input got at₀ at = got - at
 
-pub answer-all-spec : {M : Type 1} → statement M
-answer-all-spec =
+pub main-spec : {M : Type 1} → statement M
+main-spec =
     tie.close
     (tie.spec
     Inv-loop
