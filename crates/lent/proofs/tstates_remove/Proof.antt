@@ -23,5 +23,5 @@ pub tstates-remove-spec : {M : Type 1} → stated.statement M
 unfolding code.routine
 tstates-remove-spec 𝓤 H 𝓜 𝓖 𝓡 =
     edits 𝓤 H 𝓜 𝓖 𝓡 (usize ∷ []) (uint-vals w64, tt) (uint-tells w64, tt) (uint-lawful 𝓤 H (𝓖 .A) (givenOf 𝓤 H 𝓜 𝓖) w64, tt)
-    (λ r a. removeOf r (a .0)) (lent.clauses 𝓤 H (𝓖 .A) (𝓜 .mem) (𝓡 .run)) by-value.name (λ κs a g. factI 𝓤 _ (emp 𝓤) (refl, refl, remove-kept (now (a .0)) (a .1 .0)))
-    code.env key.name (code.unfolded 𝓤 H 𝓜 𝓡) by-value.routine code.calls-opcode·record·OpCode·tstates-remove (by-value-thm.met 𝓤 H 𝓜 𝓖 𝓡)
+    (λ r a. removeOf r (a .0)) (lent.clauses 𝓤 H (𝓖 .A) (𝓜 .mem) (𝓡 .run)) (λ κs a g. factI 𝓤 _ (emp 𝓤) (refl, refl, remove-kept (now (a .0)) (a .1 .0)))
+    code.env key.name by-value.name (code.unfolded 𝓤 H 𝓜 𝓡) by-value.routine code.calls-opcode·record·OpCode·tstates-remove (by-value-thm.met 𝓤 H 𝓜 𝓖 𝓡)

@@ -26,5 +26,5 @@ unfolding code.routine
 extend-and-push-spec 𝓤 H 𝓜 𝓖 𝓡 =
     let W = givenOf 𝓤 H 𝓜 𝓖 in
     owns-and-lends 𝓤 H 𝓜 𝓖 𝓡 (X.the-row ∷ []) (S.the-row ∷ []) (LL.vals X.the-type X′.the-laws, (LL.vals S.the-type S′.the-laws, tt)) (LL.tells X.the-type X′.the-laws, (LL.tells S.the-type S′.the-laws, tt)) (LL.lawful X.the-type X′.the-laws 𝓤 H (𝓖 .A) W, tt) (LL.lawful S.the-type S′.the-laws 𝓤 H (𝓖 .A) W, tt)
-    (λ r a. extendOf r (a .0)) (λ r a. pushOf r (a .0)) (owner.clauses 𝓤 H (𝓖 .A) (𝓜 .mem) (𝓡 .run)) first.name second.name (λ κs a g. factI 𝓤 _ (emp 𝓤) refl)
-    code.env key.name (code.unfolded 𝓤 H 𝓜 𝓡) first.routine code.calls-lent·tstates-extend (first-thm.met 𝓤 H 𝓜 𝓖 𝓡) second.routine code.calls-lent·tstates-push (second-thm.met 𝓤 H 𝓜 𝓖 𝓡)
+    (λ r a. extendOf r (a .0)) (λ r a. pushOf r (a .0)) (owner.clauses 𝓤 H (𝓖 .A) (𝓜 .mem) (𝓡 .run)) (λ κs a g. factI 𝓤 _ (emp 𝓤) refl)
+    code.env key.name first.name second.name (code.unfolded 𝓤 H 𝓜 𝓡) first.routine code.calls-lent·tstates-extend (first-thm.met 𝓤 H 𝓜 𝓖 𝓡) second.routine code.calls-lent·tstates-push (second-thm.met 𝓤 H 𝓜 𝓖 𝓡)

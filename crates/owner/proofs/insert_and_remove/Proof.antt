@@ -27,5 +27,5 @@ unfolding code.routine
 insert-and-remove-spec 𝓤 H 𝓜 𝓖 𝓡 =
     let W = givenOf 𝓤 H 𝓜 𝓖 in
     owns-and-lends 𝓤 H 𝓜 𝓖 𝓡 (usize ∷ X.the-row ∷ []) (usize ∷ []) (uint-vals w64, (LL.vals X.the-type X′.the-laws, (uint-vals w64, tt))) (uint-tells w64, (LL.tells X.the-type X′.the-laws, (uint-tells w64, tt))) (uint-lawful 𝓤 H (𝓖 .A) W w64, (LL.lawful X.the-type X′.the-laws 𝓤 H (𝓖 .A) W, tt)) (uint-lawful 𝓤 H (𝓖 .A) W w64, tt)
-    (λ r a. insertOf r (a .0) (a .1 .0)) (λ r a. removeOf r (a .0)) (owner.clauses 𝓤 H (𝓖 .A) (𝓜 .mem) (𝓡 .run)) first.name second.name (λ κs a g. factI 𝓤 _ (emp 𝓤) refl)
-    code.env key.name (code.unfolded 𝓤 H 𝓜 𝓡) first.routine code.calls-lent·tstates-insert (first-thm.met 𝓤 H 𝓜 𝓖 𝓡) second.routine code.calls-lent·tstates-remove (second-thm.met 𝓤 H 𝓜 𝓖 𝓡)
+    (λ r a. insertOf r (a .0) (a .1 .0)) (λ r a. removeOf r (a .0)) (owner.clauses 𝓤 H (𝓖 .A) (𝓜 .mem) (𝓡 .run)) (λ κs a g. factI 𝓤 _ (emp 𝓤) refl)
+    code.env key.name first.name second.name (code.unfolded 𝓤 H 𝓜 𝓡) first.routine code.calls-lent·tstates-insert (first-thm.met 𝓤 H 𝓜 𝓖 𝓡) second.routine code.calls-lent·tstates-remove (second-thm.met 𝓤 H 𝓜 𝓖 𝓡)
