@@ -24,7 +24,7 @@ use writer::put_bytes;
 // A request: which owner, six T-states and a count for the record and for what is put in, and two numbers more.
 const REQUEST_SIZE: usize = 17;
 
-// A line: three bytes for each of the request's, the two answers, three for each of the record's 22, and LF.
+// A line: three bytes for each of the request's, five for = and the two answers, three for each of the record's 22, and LF.
 const LINE_SIZE: usize = 123;
 
 // The T-states of a request, six bytes and a count.
@@ -55,8 +55,8 @@ fn record(held: Timing) -> OpCode {
         op2: Place::Of(Operand::Imm8(7)),
         op3: Place::Of(Operand::IgnoreIO),
         data: [0xDD, 0x36, 0x80, 7],
-        tstates: tstates,
-        mcycles: mcycles,
+        tstates,
+        mcycles,
     }
 }
 

@@ -69,11 +69,11 @@ module _ {M : Type 1} (𝓤 : URA M) (H : Heap 𝓤) where
 
 -- ---- the entry of the context: room for the locals, and the locals with their values
 module _ {M : Type 1} {𝓤 : URA M} where
-  abbrev pub rooms : (τs : List Ty) → Blocks τs → Item 𝓤
+  abbrev rooms : (τs : List Ty) → Blocks τs → Item 𝓤
   rooms [] bs = ‵ ftrue
   rooms (τ ∷ τs) bs = (‵ (froom τ (bs .0) zero) ⊛ ‵ (fdies τ (bs .0))) ⊛ rooms τs (bs .1)
 
-  abbrev pub cells : (τs : List Ty) → Blocks τs → List Val → Item 𝓤
+  abbrev cells : (τs : List Ty) → Blocks τs → List Val → Item 𝓤
   cells [] bs vs = ‵ ftrue
   cells (τ ∷ τs) bs [] = ‵ ftrue
   cells (τ ∷ τs) bs (v ∷ vs) = (‵ (fat fullShare τ (bs .0) zero v) ⊛ ‵ (fdies τ (bs .0))) ⊛ cells τs (bs .1) vs

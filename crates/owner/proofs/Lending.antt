@@ -56,7 +56,7 @@ module _ {M : Type 1} (𝓤 : URA M) (H : Heap 𝓤) (A : Atoms 𝓤) (W : Given
 
 module _ (Rs : List RattleType) (change : OpCode → Denots Rs → Edited) {M : Type 1} (𝓤 : URA M) (H : Heap 𝓤) (A : Atoms 𝓤) where
   -- the contract of an edit of a lent record
-  abbrev pub leaves : Clauses 𝓤 (lent Rs)
+  abbrev leaves : Clauses 𝓤 (lent Rs)
   leaves κs a = record { ghost = Unit {0}; requires = λ _. emp 𝓤; ensures = λ _ ok end. fact 𝓤 (Leaves (λ r. change r (values 1 κs Rs (a .1))) (now (a .0)) ok (now (end .0))) }
 
   abbrev pub Lent : Contract 𝓤
@@ -64,11 +64,11 @@ module _ (Rs : List RattleType) (change : OpCode → Denots Rs → Edited) {M : 
 
   -- the record h in the local l is lent with the parameters a, at the machine values xs
   module _ (W : Given 𝓤 H A) (l : ℕ) (h : OpCode) (a : Denots (rows 0 tt Rs)) (xs : Valss (rows 0 tt Rs)) where
-    abbrev pub done-with : Edited
+    abbrev done-with : Edited
     done-with = change h (values 0 tt Rs a)
 
     -- what the owner knows once it has the record back
-    abbrev pub Known : Val → Type 0
+    abbrev Known : Val → Type 0
     Known w = (w ≡ vbool (done-with .ok)) × Is T.the-row (done-with .rec) (rv (done-with .rec) ∷ [])
 
     module _ (ν : ℕ) (δ : GName) where

@@ -25,13 +25,13 @@ pub fn extend_and_push(rec: OpCode, more: Timing, t: TStates) -> Twice
     let first = tstates_extend(&mut own, more);
     let second = tstates_push(&mut own, t);
     Twice {
-        first: first,
-        second: second,
+        first,
+        second,
         rec: own,
     }
 }
 
-// The record with `more` before place pos, and then without place out.
+// The record with `more` before place `pos`, then without place `out`.
 pub fn insert_and_remove(rec: OpCode, pos: usize, more: Timing, out: usize) -> Twice
     ensures { λ r. ⌜ r ≡ twice (insertOf rec pos more) (λ x. removeOf x out) ⌝ }
 {
@@ -39,8 +39,8 @@ pub fn insert_and_remove(rec: OpCode, pos: usize, more: Timing, out: usize) -> T
     let first = tstates_insert(&mut own, pos, more);
     let second = tstates_remove(&mut own, out);
     Twice {
-        first: first,
-        second: second,
+        first,
+        second,
         rec: own,
     }
 }

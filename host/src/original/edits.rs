@@ -26,7 +26,8 @@ impl Edit {
         allowed
     }
 
-    /// The rule, for a record of m machine cycles: no more than six, room for what is put in, a place among the filled ones.
+    /// The rule, for a record of m machine cycles: m at most six, room for what is put in, a place from 0 to m for insert and
+    /// to m-1 for remove.
     fn is_allowed(&self, m: usize) -> bool {
         m <= PLACES
             && match self {

@@ -1,4 +1,4 @@
--- `main` is safe and ends: the requests that are left of the input fall. Assumes nothing.
+-- `main` is safe and ends: what is left of the input falls. Assumes nothing.
 use Prim.Native.Nat.{_≤_, _-_}
 use borrow.Author.Needs.{needs}
 use Rattle.edits.proofs.main.Statement.{statement}
