@@ -47,6 +47,7 @@ module _ {M : Type 1} (𝓤 : URA M) (H : Heap 𝓤) where
   Placed E i [] = Unit {0}
   Placed E i (e ∷ es) = (getD E i (noLocal 𝓤 H) ≡ e) × Placed E (suc i) es
 
+  -- one local more in front
   behind : (e : Ty × ℕ) (E : Env 𝓤 H) (i : ℕ) (es : List (Ty × ℕ)) → Placed E i es → Placed (e ∷ E) (suc i) es
   behind e E i [] p = tt
   behind e E i (e′ ∷ es) p = (p .0, behind e E (suc i) es (p .1))
@@ -55,6 +56,7 @@ module _ {M : Type 1} (𝓤 : URA M) (H : Heap 𝓤) where
   pub behind-two : (d e : Ty × ℕ) (E : Env 𝓤 H) (i : ℕ) (es : List (Ty × ℕ)) → Placed E i es → Placed (d ∷ e ∷ E) (suc (suc i)) es
   behind-two d e E i es p = behind d (e ∷ E) (suc i) es (behind e E i es p)
 
+  -- an environment has all that it has, its first locals, and what stands behind those
   pub whole : (es : List (Ty × ℕ)) → Placed es zero es
   whole [] = tt
   whole (e ∷ es) = (refl, behind e es zero es (whole es))
@@ -79,11 +81,13 @@ module _ {M : Type 1} {𝓤 : URA M} where
   cells (τ ∷ τs) bs (v ∷ vs) = (‵ (fat fullShare τ (bs .0) zero v) ⊛ ‵ (fdies τ (bs .0))) ⊛ cells τs (bs .1) vs
 
 module _ {M : Type 1} {𝓤 : URA M} {H : Heap 𝓤} {A : Atoms 𝓤} {K : Type 0} {W : Given 𝓤 H A} where
+  -- they are allocated
   pub alloc-all : K → (τs : List Ty) {Γ : List (Item 𝓤)} {ls : List Local} {Kt : Env 𝓤 H → Goal 𝓤 H}
       → ((bs : Blocks τs) → Seq K W (rooms τs bs ∷ Γ) (allocs ls (λ E. Kt (entries τs bs ++ E)))) → Seq K W Γ (allocs (declared τs ++ ls) Kt)
   alloc-all t [] k = nothing t $ k tt
   alloc-all t (τ ∷ τs) k = alloc1 t (λ b. alloc-all t τs (λ bs. move t (1 ∷ 2 ∷ []) $ join t $ join t $ k (b, bs)))
 
+  -- the arguments are stored in them: the first ones, and all of them
   pub pass-first : K → (τs : List Ty) (bs : Blocks τs) (vs : List Val) → Typed τs vs → (E : Env 𝓤 H) (us : List Val) {Γ : List (Item 𝓤)} {g : Goal 𝓤 H}
       → Step K W (cells τs bs vs ∷ Γ) (passes E us g) (rooms τs bs ∷ Γ) (passes (entries τs bs ++ E) (vs ++ us) g)
   pass-first t [] bs [] ok E us = step (λ s. s)
@@ -95,6 +99,7 @@ module _ {M : Type 1} {𝓤 : URA M} {H : Heap 𝓤} {A : Atoms 𝓤} {K : Type 
       → Step K W (cells τs bs vs ∷ Γ) g (rooms τs bs ∷ Γ) (passes (entries τs bs ++ E) vs g)
   pass-all t τs bs vs ok E {Γ} {g} = step (λ s. subst (λ (us : List Val). Seq K W (rooms τs bs ∷ Γ) (passes (entries τs bs ++ E) us g)) (append-nil vs) (pass-first t τs bs vs ok E [] $ pass0 t $ s))
 
+  -- they are freed
   pub free-all : K → (τs : List Ty) (bs : Blocks τs) (vs : List Val) → Typed τs vs → (E : Env 𝓤 H) {Γ : List (Item 𝓤)} {g : Goal 𝓤 H}
       → Step K W Γ (frees E g) (cells τs bs vs ∷ Γ) (frees (entries τs bs ++ E) g)
   free-all t [] bs vs ok E = drop t
@@ -109,6 +114,7 @@ module _ {M : Type 1} {𝓤 : URA M} {H : Heap 𝓤} {A : Atoms 𝓤} {K : Type 
   opds-alike : {Γ Δ : List (Item 𝓤)} {E : Env 𝓤 H} {xs : List Operand} {vs : List Val} → ent 𝓤 (⋆ 𝓤 H A Γ) (⋆ 𝓤 H A Δ) → ent 𝓤 (⋆ 𝓤 H A Δ) (⋆ 𝓤 H A Γ) → Opds K W Δ E xs vs → Opds K W Γ E xs vs
   opds-alike {Γ} {Δ} to back os = record { go = λ Kt h. via 𝓤 (⋆ 𝓤 H A Δ) to (os .go Kt (via 𝓤 (⋆ 𝓤 H A Γ) back h)) }
 
+  -- and at values that are the same
   pub opds-are : {Γ : List (Item 𝓤)} {E : Env 𝓤 H} {xs : List Operand} {us vs : List Val} → us ≡ vs → Opds K W Γ E xs us → Opds K W Γ E xs vs
   opds-are {Γ} {E} {xs} e os = subst (λ (ws : List Val). Opds K W Γ E xs ws) e os
 
@@ -119,6 +125,7 @@ module _ {M : Type 1} {𝓤 : URA M} {H : Heap 𝓤} {A : Atoms 𝓤} {K : Type 
   pub under-two : {Γ : List (Item 𝓤)} {h i j : Item 𝓤} {E : Env 𝓤 H} {xs : List Operand} {vs : List Val} → Opds K W (j ∷ h ∷ i ∷ Γ) E xs vs → Opds K W (h ∷ i ∷ j ∷ Γ) E xs vs
   under-two {Γ} {h} {i} {j} = opds-alike (qed W (h ∷ i ∷ j ∷ Γ) ∵ move ! (2 ∷ 0 ∷ 1 ∷ []) $ done !) (qed W (j ∷ h ∷ i ∷ Γ) ∵ move ! (1 ∷ 2 ∷ 0 ∷ []) $ done !)
 
+  -- they are read
   pub read-all : K → {Γ : List (Item 𝓤)} {E : Env 𝓤 H} (τs : List Ty) (bs : Blocks τs) (vs : List Val) → Typed τs vs → (i : ℕ) → Placed 𝓤 H E i (entries τs bs) → Opds K W (cells τs bs vs ∷ Γ) E (copies i τs) vs
   read-all t [] bs [] ok i p = no-more t
   read-all t [] bs (v ∷ vs) ok i p = absurd ok

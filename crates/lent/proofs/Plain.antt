@@ -49,6 +49,7 @@ module _ (n : ℕ) where
     told [] sp tl = tt
     told (R ∷ Rs) sp tl = (tl .0, told Rs (sp .1) (tl .1))
 
+    -- which are of their MIR types
     pub typed : {M : Type 1} (𝓤 : URA M) (H : Heap 𝓤) (A : Atoms 𝓤) (Rs : List RattleType) → Lawfuls 𝓤 H A Rs → (a : Denots (rows Rs)) (vss : Valss (rows Rs)) → Are (rows Rs) (Ises (rows Rs)) a vss → Typed (mirs Rs) (flat (rows Rs) vss)
     typed 𝓤 H A [] L a vss are = tt
     typed 𝓤 H A (R ∷ Rs) L a vss are = typed-app (R .mir) (mirs Rs) (vss .0) (flat (rows Rs) (vss .1)) (L .0 .typed (a .0) (vss .0) (are .0)) (typed 𝓤 H A Rs (L .1) (a .1) (vss .1) (are .1))
@@ -66,6 +67,7 @@ module _ (n : ℕ) where
     had 𝓤 H A [] a vss = id⊢ 𝓤 (emp 𝓤)
     had 𝓤 H A (R ∷ Rs) a vss = via 𝓤 _ (emp∗ 𝓤 (emp 𝓤)) (monoR 𝓤 (emp 𝓤) (had 𝓤 H A Rs (a .1) (vss .1)))
 
+  -- and nothing is said of them
   pub going : {M : Type 1} (𝓤 : URA M) (H : Heap 𝓤) (A : Atoms 𝓤) (W : Given 𝓤 H A) (Rs : List RattleType) → AllGo 𝓤 H A W n (slots Rs) (all yes (slots Rs)) (dropped Rs)
   going 𝓤 H A W [] = tt
   going 𝓤 H A W (R ∷ Rs) = (goes-dropped 𝓤 H A W n (plain (λ _. still R)) yes (λ κs x f. refl), going 𝓤 H A W Rs)

@@ -79,12 +79,14 @@ module _ (Rs : List RattleType) (change : OpCode → Denots Rs → Edited) {M : 
       abbrev to : Lent .Ghost
       to = (((ν ∷ [], tt), (fullShare, tt), tt, (x, on 0 1 tt (ν ∷ [], tt) Rs a), (vptr l 0 ∷ [], vals-on 0 1 tt (ν ∷ [], tt) Rs xs)), tt)
 
+      -- what the edit asks
       goes : ent 𝓤 (sep 𝓤 (A .lft (ν ∷ []) fullShare) (sep 𝓤 (sem 𝓤 H A (MutRef (named 0) (ν ∷ []) T.the-row .own x (vptr l 0 ∷ []))) (sem 𝓤 H A (owns (rows 0 tt Rs) a xs)))) (Lent .pre to)
       goes =
           qed W (‵ (flft (ν ∷ []) fullShare) ∷ ‵ (MutRef (named 0) (ν ∷ []) T.the-row .own x (vptr l 0 ∷ [])) ∷ ‵ (owns (rows 0 tt Rs) a xs) ∷ []) ∵ move ! (2 ∷ []) $
           use1 W (‵ (owns (rows 1 (ν ∷ [], tt) Rs) (on 0 1 tt (ν ∷ [], tt) Rs a) (vals-on 0 1 tt (ν ∷ [], tt) Rs xs))) (owns-on 0 1 tt (ν ∷ [], tt) 𝓤 H A Rs a xs) $ move ! (2 ∷ 0 ∷ []) $ fjoin ! $
           nothing ! $ move ! (2 ∷ 0 ∷ []) $ join ! $ join ! $ nothing ! $ move ! (1 ∷ 0 ∷ []) $ done !
 
+      -- the lifetime ends, and the record is had back
       regain : (w : Val) → ent 𝓤 (sep 𝓤 (Lent .post to w) (A .lent (ν ∷ []) (Body (mem T.the-row) l 0 δ))) (H .⇛ (guard 𝓤 (Known w) (sem 𝓤 H A (fat fullShare T′.mir l 0 (rv (done-with .rec))))))
       regain w =
           qed W (raw (Lent .post to w) ∷ ‵ (flent (ν ∷ []) (Body (mem T.the-row) l 0 δ)) ∷ []) ∵ updating ! $
@@ -99,6 +101,7 @@ module _ (Rs : List RattleType) (change : OpCode → Denots Rs → Edited) {M : 
           use1 W (given (Is T.the-row (done-with .rec) (rv (done-with .rec) ∷ [])) (‵ (fat fullShare T′.mir l 0 (rv (done-with .rec))))) (taken 𝓤 H A W (done-with .rec) l) $ learn ! (λ r-is.
           at-once ! $ check ! (ap only is ∙ ap vbool (e .0), r-is) $ keep ! (0 ∷ []) $ done !)))))
 
+    -- the record is lent
     lend : (ν : ℕ) → Is T.the-row h (rv h ∷ [])
         → ent 𝓤 (sep 𝓤 (A .lft (ν ∷ []) fullShare) (sep 𝓤 (sem 𝓤 H A (fat fullShare T′.mir l 0 (rv h))) (sem 𝓤 H A (owns (rows 0 tt Rs) a xs)))) (H .⇛ (ex 𝓤 (λ (δ : GName). sep 𝓤 (Lent .pre (to ν δ)) (A .lent (ν ∷ []) (Body (mem T.the-row) l 0 δ)))))
     lend ν is =
