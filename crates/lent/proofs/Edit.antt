@@ -31,7 +31,7 @@ use denote.Exit.{yes}
 use denote.Ref.{MutRef, now, ptr-vals, mut-tells}
 use denote.Signature.{plain}
 use denote.Steps.{only, opens, closes, owned, peeks, heard, nothing}
-use denote.Struct.Steps.{spelt as spells}
+use denote.Struct.Steps.{spelt as told-by}
 use denote.Struct.Laws as LL
 use denote.Triple.Entry.{Args, onEntry}
 use denote.Triple.End.{all}
@@ -48,6 +48,7 @@ use Rattle.opcode.proofs.record.OpCode.Laws as T′
 use Rattle.opcode.proofs.timing.Edited as E
 use Rattle.opcode.proofs.timing.Edited.Laws as E′
 use Rattle.lent.proofs.Locals.{Blocks, declared, entries, copies, beyond, Placed, behind-two, whole, in-front, past, alloc-all, pass-all, free-all, at-local, opds-are, under, read-all}
+use Rattle.lent.proofs.Parameter.{Parameter, kinds, spells, tells, lawfuls}
 use Rattle.lent.proofs.Plain.{slots, dropped, rows, values, spelt, told, typed, lasting, fitting, had, going, on, vals-on, values-on, flat-on, owns-on}
 
 -- the machine value of a record
@@ -170,7 +171,7 @@ module _ (Rs : List RattleType) where
                   pass1 ! (init ! 5 refl (tt, tt)) $ move ! (4 ∷ []) $ pass-all ! (mirs Rs) bs vs ok es $
                   -- the borrow is opened
                   move ! (10 ∷ []) $ fsplit ! $ fsplit3 ! $ drop ! $ move ! (12 ∷ []) $ split ! $ move ! (2 ∷ 3 ∷ 0 ∷ []) $
-                  opens ! tt T.the-row {h = h} b o (λ us. spells ! T.the-row (Is T.the-row) (shows 𝓤 H A T.the-row) (LL.vals T.the-type T′.the-laws) (LL.tells T.the-type T′.the-laws) fullShare h us b o $
+                  opens ! tt T.the-row {h = h} b o (λ us. told-by ! T.the-row (Is T.the-row) (shows 𝓤 H A T.the-row) (LL.vals T.the-type T′.the-laws) (LL.tells T.the-type T′.the-laws) fullShare h us b o $
                   move ! (1 ∷ []) $ peeks ! T.the-row (Is T.the-row) (shows 𝓤 H A T.the-row) h (rv h ∷ []) (λ was. move ! (1 ∷ 0 ∷ []) $
                   -- [the record's cell; what it owns; the open borrow; obs; auth; true; what the parameters own; the parameters; room for the record passed; …; room for the answer; …; rec; …; room for the result; …]
                   assigns ! (of-opd ! (load ! (from ! (hop ! (look ! 12 refl) (stop !))) (look-raw ! 0 refl))) (at-local ! (at .1 .0) (stop !)) (init ! 8 refl (LL.lawful T.the-type T′.the-laws 𝓤 H A W .typed h _ was .0)) $
@@ -190,9 +191,9 @@ module _ (Rs : List RattleType) where
                   keep ! (0 ∷ 1 ∷ 2 ∷ []) $ by ! (exits e (is ∙ ap (change h) (values-on 1 0 (κ, tt) tt Rs x))))))))))))))
 
         -- how the parameters are spelled as machine values
-        module _ (sp : Spells Rs) (tells : Tellss Rs (Ises Rs) sp) (laws : Lawfuls 𝓤 H A Rs) (f : Name) where
+        module _ (sp : Spells Rs) (only-those : Tellss Rs (Ises Rs) sp) (laws : Lawfuls 𝓤 H A Rs) (f : Name) where
           walks : (C : Calls 𝓤 H) (Λ : Loops 𝓤 H) → FmC 𝓤 H (W .laws) C → Triple 𝓤 (C f) Asked → Walks 𝓤 H A lent stayed (WpFn 𝓤 H C Λ (function f)) c
-          walks C Λ fm known = walked 𝓤 H A lent stayed c (WpFn 𝓤 H C Λ (function f)) (λ κs. (ptr-vals, spelt 1 κs Rs sp)) (λ κs. (mut-tells (named 0) (κs .0) T.the-row, told 1 κs Rs sp tells))
+          walks C Λ fm known = walked 𝓤 H A lent stayed c (WpFn 𝓤 H C Λ (function f)) (λ κs. (ptr-vals, spelt 1 κs Rs sp)) (λ κs. (mut-tells (named 0) (κs .0) T.the-row, told 1 κs Rs sp only-those))
               (λ κs qs bounds a g are. via 𝓤 _ (fst∗ 𝓤 _ (c κs a .requires g)) (walk (κs .0) (qs .0) (a .0 .ptr .0) (a .0 .ptr .1) (a .0 .name) (a .0 .now) (a .1) (valss (rows 1 κs Rs) (spelt 1 κs Rs sp) (a .1)) g (typed 1 κs 𝓤 H A Rs laws (a .1) _ (are .1)) f C Λ fm known))
 
           meets : (𝓣 : Tables 𝓤 H) → Triple 𝓤 (𝓣 .C f) Asked → Meets 𝓤 H A (lent .signature) (WpFn 𝓤 H (𝓣 .C) (𝓣 .Λ) (function f)) (closing 𝓤 H A lent c)
@@ -201,12 +202,15 @@ module _ (Rs : List RattleType) where
               (WpFn 𝓤 H (𝓣 .C) (𝓣 .Λ) (function f)) (WpFn-mono 𝓤 H (W .laws) 𝓣 (function f)) (walks (𝓣 .C) (𝓣 .Λ) (fmOf 𝓤 H (W .laws) 𝓣) known)
 
 -- the law: where the name k has that MIR, and f the edit by value, k meets the contract c
-pub edits : {M : Type 1} (𝓤 : URA M) (H : Heap 𝓤) (𝓜 : Model 𝓤 H) (𝓖 : GhostRules 𝓤 H) (𝓡 : Running 𝓤 H 𝓜)
-    (Rs : List RattleType) (sp : Spells Rs) → Tellss Rs (Ises Rs) sp → Lawfuls 𝓤 H (𝓖 .A) Rs
-    → (change : OpCode → Denots Rs → Edited) (c : Clauses 𝓤 (lent Rs)) → Holds Rs change 𝓤 c
-    → (γ : Bindings) (k f : Name) → Closed 𝓤 H (tables 𝓤 H 𝓜 𝓡 γ .C) (tables 𝓤 H 𝓜 𝓡 γ .Λ) k (function Rs f) → (r : Routine) → γ f ≡ r → Triple 𝓤 (𝓡 .run r) (Asked Rs change 𝓤 H (𝓖 .A))
-    → Meets 𝓤 H (𝓖 .A) (lent Rs .signature) (tables 𝓤 H 𝓜 𝓡 γ .C k) (closing 𝓤 H (𝓖 .A) (lent Rs) c)
-unfolding tablesOf
-edits 𝓤 H 𝓜 𝓖 𝓡 Rs sp tells laws change c holds γ k f closed r is known =
-    entered 𝓤 H (tripleOf 𝓤 H (𝓖 .A) (lent Rs .signature) (closing 𝓤 H (𝓖 .A) (lent Rs) c)) (tables 𝓤 H 𝓜 𝓡 γ .C) (tables 𝓤 H 𝓜 𝓡 γ .Λ) k (function Rs f) closed
-    (meets Rs change 𝓤 H (𝓖 .A) c holds (givenOf 𝓤 H 𝓜 𝓖) sp tells laws f (tablesOf 𝓤 H 𝓜 (tables 𝓤 H 𝓜 𝓡 γ)) (cited 𝓤 H (Asked Rs change 𝓤 H (𝓖 .A)) 𝓜 𝓡 γ f r is known))
+module _ {M : Type 1} (𝓤 : URA M) (H : Heap 𝓤) (𝓜 : Model 𝓤 H) (𝓖 : GhostRules 𝓤 H) (𝓡 : Running 𝓤 H 𝓜) (ps : List (Parameter 𝓤 H (𝓖 .A))) where
+  abbrev Kinds : List RattleType
+  Kinds = kinds 𝓤 H (𝓖 .A) ps
+
+  pub edits : (change : OpCode → Denots Kinds → Edited) (c : Clauses 𝓤 (lent Kinds)) → Holds Kinds change 𝓤 c
+      → (γ : Bindings) (k f : Name) → Closed 𝓤 H (tables 𝓤 H 𝓜 𝓡 γ .C) (tables 𝓤 H 𝓜 𝓡 γ .Λ) k (function Kinds f) → (r : Routine) → γ f ≡ r → Triple 𝓤 (𝓡 .run r) (Asked Kinds change 𝓤 H (𝓖 .A))
+      → Meets 𝓤 H (𝓖 .A) (lent Kinds .signature) (tables 𝓤 H 𝓜 𝓡 γ .C k) (closing 𝓤 H (𝓖 .A) (lent Kinds) c)
+  unfolding tablesOf
+  edits change c holds γ k f closed r is known =
+      entered 𝓤 H (tripleOf 𝓤 H (𝓖 .A) (lent Kinds .signature) (closing 𝓤 H (𝓖 .A) (lent Kinds) c)) (tables 𝓤 H 𝓜 𝓡 γ .C) (tables 𝓤 H 𝓜 𝓡 γ .Λ) k (function Kinds f) closed
+      (meets Kinds change 𝓤 H (𝓖 .A) c holds (givenOf 𝓤 H 𝓜 𝓖) (spells 𝓤 H (𝓖 .A) [] ps) (tells 𝓤 H (𝓖 .A) [] ps) (lawfuls 𝓤 H (𝓖 .A) ps) f (tablesOf 𝓤 H 𝓜 (tables 𝓤 H 𝓜 𝓡 γ))
+      (cited 𝓤 H (Asked Kinds change 𝓤 H (𝓖 .A)) 𝓜 𝓡 γ f r is known))

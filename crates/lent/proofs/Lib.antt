@@ -1,3 +1,4 @@
 pub mod Edit
 pub mod Locals
+pub mod Parameter
 pub mod Plain

@@ -42,6 +42,7 @@ use Rattle.opcode.proofs.record.OpCode as T
 use Rattle.opcode.proofs.record.OpCode.Laws as T′
 use Rattle.lent.proofs.Edit.{rv}
 use Rattle.lent.proofs.Locals.{Blocks, declared, entries, copies, beyond, Placed, behind-two, whole, in-front, past, alloc-all, pass-first, pass-all, free-all, at-local, under-two, read-all}
+use Rattle.lent.proofs.Parameter.{Parameter, kinds, spells, tells, lawfuls}
 use Rattle.lent.proofs.Plain.{slots, dropped, rows, values, spelt, told, typed, lasting, fitting, had, going}
 use Rattle.owner.specs.Owner.{twice}
 use Rattle.owner.specs.declared.Twice.{Twice}
@@ -202,12 +203,12 @@ module _ (Ps Qs : List RattleType) where
                 keep ! (0 ∷ []) $ by ! (exits (said′ .1))))))))))))))
 
         -- how the parameters are spelled as machine values
-        module _ (c : Clauses 𝓤 owner) (holds : Holds c) (W : Given 𝓤 H A) (sp : Spells (Ps ++ Qs)) (tells : Tellss (Ps ++ Qs) (Ises (Ps ++ Qs)) sp) (laws₁ : Lawfuls 𝓤 H A Ps) (laws₂ : Lawfuls 𝓤 H A Qs) (f g : Name) where
+        module _ (c : Clauses 𝓤 owner) (holds : Holds c) (W : Given 𝓤 H A) (sp : Spells (Ps ++ Qs)) (only-those : Tellss (Ps ++ Qs) (Ises (Ps ++ Qs)) sp) (laws₁ : Lawfuls 𝓤 H A Ps) (laws₂ : Lawfuls 𝓤 H A Qs) (f g : Name) where
           abbrev spAll : Spells All
           spAll = (LL.vals T.the-type T′.the-laws, sp)
 
           walks : (C : Calls 𝓤 H) (Λ : Loops 𝓤 H) → FmC 𝓤 H (W .laws) C → Triple 𝓤 (C f) (Lent Ps change 𝓤 H A) → Triple 𝓤 (C g) (Lent Qs change′ 𝓤 H A) → Walks 𝓤 H A owner (dropped 0 All) (WpFn 𝓤 H C Λ (function f g)) c
-          walks C Λ fm known₁ known₂ = walked 𝓤 H A owner (dropped 0 All) c (WpFn 𝓤 H C Λ (function f g)) (λ κs. spelt 0 κs All spAll) (λ κs. told 0 κs All spAll (LL.tells T.the-type T′.the-laws, tells))
+          walks C Λ fm known₁ known₂ = walked 𝓤 H A owner (dropped 0 All) c (WpFn 𝓤 H C Λ (function f g)) (λ κs. spelt 0 κs All spAll) (λ κs. told 0 κs All spAll (LL.tells T.the-type T′.the-laws, only-those))
               (λ κs qs bounds a γ are.
               let xs : Valss (rows 0 tt (Ps ++ Qs)) = valss (rows 0 tt (Ps ++ Qs)) (spelt 0 tt (Ps ++ Qs) sp) (a .1) in
               via 𝓤 _ (fst∗ 𝓤 _ (c κs a .requires γ))
@@ -219,14 +220,19 @@ module _ (Ps Qs : List RattleType) where
               walk-meets 𝓤 H A owner (dropped 0 All) W (going 0 𝓤 H A W All) c (WpFn 𝓤 H (𝓣 .C) (𝓣 .Λ) (function f g)) (WpFn-mono 𝓤 H (W .laws) 𝓣 (function f g)) (walks (𝓣 .C) (𝓣 .Λ) (fmOf 𝓤 H (W .laws) 𝓣) known₁ known₂)
 
 -- the law: where the name k has that MIR, and f and g are the two edits, k meets the contract c
-pub owns-and-lends : {M : Type 1} (𝓤 : URA M) (H : Heap 𝓤) (𝓜 : Model 𝓤 H) (𝓖 : GhostRules 𝓤 H) (𝓡 : Running 𝓤 H 𝓜)
-    (Ps Qs : List RattleType) (sp : Spells (Ps ++ Qs)) → Tellss (Ps ++ Qs) (Ises (Ps ++ Qs)) sp → Lawfuls 𝓤 H (𝓖 .A) Ps → Lawfuls 𝓤 H (𝓖 .A) Qs
-    → (change : OpCode → Denots Ps → Edited) (change′ : OpCode → Denots Qs → Edited) (c : Clauses 𝓤 (owner Ps Qs)) → Holds Ps Qs change change′ 𝓤 c
-    → (γ : Bindings) (k f g : Name) → Closed 𝓤 H (tables 𝓤 H 𝓜 𝓡 γ .C) (tables 𝓤 H 𝓜 𝓡 γ .Λ) k (function Ps Qs f g)
-    → (r : Routine) → γ f ≡ r → Triple 𝓤 (𝓡 .run r) (Lent Ps change 𝓤 H (𝓖 .A)) → (s : Routine) → γ g ≡ s → Triple 𝓤 (𝓡 .run s) (Lent Qs change′ 𝓤 H (𝓖 .A))
-    → Meets 𝓤 H (𝓖 .A) (owner Ps Qs .signature) (tables 𝓤 H 𝓜 𝓡 γ .C k) (closing 𝓤 H (𝓖 .A) (owner Ps Qs) c)
-unfolding tablesOf
-owns-and-lends 𝓤 H 𝓜 𝓖 𝓡 Ps Qs sp tells laws₁ laws₂ change change′ c holds γ k f g closed r r-is known₁ s s-is known₂ =
-    entered 𝓤 H (tripleOf 𝓤 H (𝓖 .A) (owner Ps Qs .signature) (closing 𝓤 H (𝓖 .A) (owner Ps Qs) c)) (tables 𝓤 H 𝓜 𝓡 γ .C) (tables 𝓤 H 𝓜 𝓡 γ .Λ) k (function Ps Qs f g) closed
-    (meets Ps Qs change change′ 𝓤 H (𝓖 .A) c holds (givenOf 𝓤 H 𝓜 𝓖) sp tells laws₁ laws₂ f g (tablesOf 𝓤 H 𝓜 (tables 𝓤 H 𝓜 𝓡 γ))
-    (cited 𝓤 H (Lent Ps change 𝓤 H (𝓖 .A)) 𝓜 𝓡 γ f r r-is known₁) (cited 𝓤 H (Lent Qs change′ 𝓤 H (𝓖 .A)) 𝓜 𝓡 γ g s s-is known₂))
+module _ {M : Type 1} (𝓤 : URA M) (H : Heap 𝓤) (𝓜 : Model 𝓤 H) (𝓖 : GhostRules 𝓤 H) (𝓡 : Running 𝓤 H 𝓜) (ps qs : List (Parameter 𝓤 H (𝓖 .A))) where
+  abbrev Firsts : List RattleType
+  Firsts = kinds 𝓤 H (𝓖 .A) ps
+
+  abbrev Seconds : List RattleType
+  Seconds = kinds 𝓤 H (𝓖 .A) qs
+
+  pub owns-and-lends : (change : OpCode → Denots Firsts → Edited) (change′ : OpCode → Denots Seconds → Edited) (c : Clauses 𝓤 (owner Firsts Seconds)) → Holds Firsts Seconds change change′ 𝓤 c
+      → (γ : Bindings) (k f g : Name) → Closed 𝓤 H (tables 𝓤 H 𝓜 𝓡 γ .C) (tables 𝓤 H 𝓜 𝓡 γ .Λ) k (function Firsts Seconds f g)
+      → (r : Routine) → γ f ≡ r → Triple 𝓤 (𝓡 .run r) (Lent Firsts change 𝓤 H (𝓖 .A)) → (s : Routine) → γ g ≡ s → Triple 𝓤 (𝓡 .run s) (Lent Seconds change′ 𝓤 H (𝓖 .A))
+      → Meets 𝓤 H (𝓖 .A) (owner Firsts Seconds .signature) (tables 𝓤 H 𝓜 𝓡 γ .C k) (closing 𝓤 H (𝓖 .A) (owner Firsts Seconds) c)
+  unfolding tablesOf
+  owns-and-lends change change′ c holds γ k f g closed r r-is known₁ s s-is known₂ =
+      entered 𝓤 H (tripleOf 𝓤 H (𝓖 .A) (owner Firsts Seconds .signature) (closing 𝓤 H (𝓖 .A) (owner Firsts Seconds) c)) (tables 𝓤 H 𝓜 𝓡 γ .C) (tables 𝓤 H 𝓜 𝓡 γ .Λ) k (function Firsts Seconds f g) closed
+      (meets Firsts Seconds change change′ 𝓤 H (𝓖 .A) c holds (givenOf 𝓤 H 𝓜 𝓖) (spells 𝓤 H (𝓖 .A) ps qs) (tells 𝓤 H (𝓖 .A) ps qs) (lawfuls 𝓤 H (𝓖 .A) ps) (lawfuls 𝓤 H (𝓖 .A) qs) f g (tablesOf 𝓤 H 𝓜 (tables 𝓤 H 𝓜 𝓡 γ))
+      (cited 𝓤 H (Lent Firsts change 𝓤 H (𝓖 .A)) 𝓜 𝓡 γ f r r-is known₁) (cited 𝓤 H (Lent Seconds change′ 𝓤 H (𝓖 .A)) 𝓜 𝓡 γ g s s-is known₂))

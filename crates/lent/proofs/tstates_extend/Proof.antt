@@ -6,14 +6,14 @@ use base.Logic.{emp}
 use contract.Monad.{factI}
 use contract.Running.{givenOf}
 use denote.Ref.{now}
-use denote.Struct.Laws as LL
 use Rattle.opcode.specs.Timing.{extendOf}
 use Rattle.opcode.proofs.Rules.{extend-kept}
-use Rattle.opcode.proofs.timing.Timing as S
-use Rattle.opcode.proofs.timing.Timing.Laws as S′
+use Rattle.opcode.proofs.timing.Timing as timing
+use Rattle.opcode.proofs.timing.Timing.Laws as timing-laws
 use Rattle.opcode.proofs.record.OpCode.tstates_extend.Symbol as by-value
 use Rattle.opcode.proofs.record.OpCode.tstates_extend.Met as by-value-thm
 use Rattle.lent.proofs.Edit.{edits}
+use Rattle.lent.proofs.Parameter.{struct}
 use Rattle.lent.proofs.tstates_extend as lent
 use Rattle.lent.proofs.tstates_extend.Key as key
 use Rattle.lent.proofs.tstates_extend.Statement as stated
@@ -22,6 +22,7 @@ use Rattle.lent.proofs.tstates_extend.Code as code
 pub tstates-extend-spec : {M : Type 1} → stated.statement M
 unfolding code.routine
 tstates-extend-spec 𝓤 H 𝓜 𝓖 𝓡 =
-    edits 𝓤 H 𝓜 𝓖 𝓡 (S.the-row ∷ []) (LL.vals S.the-type S′.the-laws, tt) (LL.tells S.the-type S′.the-laws, tt) (LL.lawful S.the-type S′.the-laws 𝓤 H (𝓖 .A) (givenOf 𝓤 H 𝓜 𝓖), tt)
+    let W = givenOf 𝓤 H 𝓜 𝓖 in
+    edits 𝓤 H 𝓜 𝓖 𝓡 (struct 𝓤 H (𝓖 .A) W timing.the-type timing-laws.the-laws ∷ [])
     (λ r a. extendOf r (a .0)) (lent.clauses 𝓤 H (𝓖 .A) (𝓜 .mem) (𝓡 .run)) (λ κs a g. factI 𝓤 _ (emp 𝓤) (refl, refl, extend-kept (now (a .0)) (a .1 .0)))
     code.env key.name by-value.name (code.unfolded 𝓤 H 𝓜 𝓡) by-value.routine code.calls-opcode·record·OpCode·tstates-extend (by-value-thm.met 𝓤 H 𝓜 𝓖 𝓡)

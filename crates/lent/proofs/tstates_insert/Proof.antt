@@ -2,21 +2,18 @@
 -- Assumes nothing.
 use mathlib.Core.Path.{refl}
 use mathlib.Core.List.{[], _∷_}
-use mir.Syntax.{w64}
 use base.Logic.{emp}
 use contract.Monad.{factI}
 use contract.Running.{givenOf}
-use denote.Builtin.{usize}
-use denote.Plain.{uint-vals, uint-tells, uint-lawful}
 use denote.Ref.{now}
-use denote.Struct.Laws as LL
 use Rattle.opcode.specs.Timing.{insertOf}
 use Rattle.opcode.proofs.Rules.{insert-kept}
-use Rattle.opcode.proofs.timing.Timing as S
-use Rattle.opcode.proofs.timing.Timing.Laws as S′
+use Rattle.opcode.proofs.timing.Timing as timing
+use Rattle.opcode.proofs.timing.Timing.Laws as timing-laws
 use Rattle.opcode.proofs.record.OpCode.tstates_insert.Symbol as by-value
 use Rattle.opcode.proofs.record.OpCode.tstates_insert.Met as by-value-thm
 use Rattle.lent.proofs.Edit.{edits}
+use Rattle.lent.proofs.Parameter.{place, struct}
 use Rattle.lent.proofs.tstates_insert as lent
 use Rattle.lent.proofs.tstates_insert.Key as key
 use Rattle.lent.proofs.tstates_insert.Statement as stated
@@ -25,6 +22,7 @@ use Rattle.lent.proofs.tstates_insert.Code as code
 pub tstates-insert-spec : {M : Type 1} → stated.statement M
 unfolding code.routine
 tstates-insert-spec 𝓤 H 𝓜 𝓖 𝓡 =
-    edits 𝓤 H 𝓜 𝓖 𝓡 (usize ∷ S.the-row ∷ []) (uint-vals w64, (LL.vals S.the-type S′.the-laws, tt)) (uint-tells w64, (LL.tells S.the-type S′.the-laws, tt)) (uint-lawful 𝓤 H (𝓖 .A) (givenOf 𝓤 H 𝓜 𝓖) w64, (LL.lawful S.the-type S′.the-laws 𝓤 H (𝓖 .A) (givenOf 𝓤 H 𝓜 𝓖), tt))
+    let W = givenOf 𝓤 H 𝓜 𝓖 in
+    edits 𝓤 H 𝓜 𝓖 𝓡 (place 𝓤 H (𝓖 .A) W ∷ struct 𝓤 H (𝓖 .A) W timing.the-type timing-laws.the-laws ∷ [])
     (λ r a. insertOf r (a .0) (a .1 .0)) (lent.clauses 𝓤 H (𝓖 .A) (𝓜 .mem) (𝓡 .run)) (λ κs a g. factI 𝓤 _ (emp 𝓤) (refl, refl, insert-kept (now (a .0)) (a .1 .0) (a .1 .1 .0)))
     code.env key.name by-value.name (code.unfolded 𝓤 H 𝓜 𝓡) by-value.routine code.calls-opcode·record·OpCode·tstates-insert (by-value-thm.met 𝓤 H 𝓜 𝓖 𝓡)

@@ -6,14 +6,14 @@ use base.Logic.{emp}
 use contract.Monad.{factI}
 use contract.Running.{givenOf}
 use denote.Ref.{now}
-use denote.Struct.Laws as LL
 use Rattle.opcode.specs.Timing.{pushOf}
 use Rattle.opcode.proofs.Rules.{push-kept}
-use Rattle.opcode.proofs.counts.TStates as S
-use Rattle.opcode.proofs.counts.TStates.Laws as S′
+use Rattle.opcode.proofs.counts.TStates as tstates
+use Rattle.opcode.proofs.counts.TStates.Laws as tstates-laws
 use Rattle.opcode.proofs.record.OpCode.tstates_push.Symbol as by-value
 use Rattle.opcode.proofs.record.OpCode.tstates_push.Met as by-value-thm
 use Rattle.lent.proofs.Edit.{edits}
+use Rattle.lent.proofs.Parameter.{struct}
 use Rattle.lent.proofs.tstates_push as lent
 use Rattle.lent.proofs.tstates_push.Key as key
 use Rattle.lent.proofs.tstates_push.Statement as stated
@@ -22,6 +22,7 @@ use Rattle.lent.proofs.tstates_push.Code as code
 pub tstates-push-spec : {M : Type 1} → stated.statement M
 unfolding code.routine
 tstates-push-spec 𝓤 H 𝓜 𝓖 𝓡 =
-    edits 𝓤 H 𝓜 𝓖 𝓡 (S.the-row ∷ []) (LL.vals S.the-type S′.the-laws, tt) (LL.tells S.the-type S′.the-laws, tt) (LL.lawful S.the-type S′.the-laws 𝓤 H (𝓖 .A) (givenOf 𝓤 H 𝓜 𝓖), tt)
+    let W = givenOf 𝓤 H 𝓜 𝓖 in
+    edits 𝓤 H 𝓜 𝓖 𝓡 (struct 𝓤 H (𝓖 .A) W tstates.the-type tstates-laws.the-laws ∷ [])
     (λ r a. pushOf r (a .0)) (lent.clauses 𝓤 H (𝓖 .A) (𝓜 .mem) (𝓡 .run)) (λ κs a g. factI 𝓤 _ (emp 𝓤) (refl, refl, push-kept (now (a .0)) (a .1 .0)))
     code.env key.name by-value.name (code.unfolded 𝓤 H 𝓜 𝓡) by-value.routine code.calls-opcode·record·OpCode·tstates-push (by-value-thm.met 𝓤 H 𝓜 𝓖 𝓡)

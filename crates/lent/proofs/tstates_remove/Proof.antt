@@ -2,18 +2,16 @@
 -- Assumes nothing.
 use mathlib.Core.Path.{refl}
 use mathlib.Core.List.{[], _∷_}
-use mir.Syntax.{w64}
 use base.Logic.{emp}
 use contract.Monad.{factI}
 use contract.Running.{givenOf}
-use denote.Builtin.{usize}
-use denote.Plain.{uint-vals, uint-tells, uint-lawful}
 use denote.Ref.{now}
 use Rattle.opcode.specs.Timing.{removeOf}
 use Rattle.opcode.proofs.Rules.{remove-kept}
 use Rattle.opcode.proofs.record.OpCode.tstates_remove.Symbol as by-value
 use Rattle.opcode.proofs.record.OpCode.tstates_remove.Met as by-value-thm
 use Rattle.lent.proofs.Edit.{edits}
+use Rattle.lent.proofs.Parameter.{place}
 use Rattle.lent.proofs.tstates_remove as lent
 use Rattle.lent.proofs.tstates_remove.Key as key
 use Rattle.lent.proofs.tstates_remove.Statement as stated
@@ -22,6 +20,7 @@ use Rattle.lent.proofs.tstates_remove.Code as code
 pub tstates-remove-spec : {M : Type 1} → stated.statement M
 unfolding code.routine
 tstates-remove-spec 𝓤 H 𝓜 𝓖 𝓡 =
-    edits 𝓤 H 𝓜 𝓖 𝓡 (usize ∷ []) (uint-vals w64, tt) (uint-tells w64, tt) (uint-lawful 𝓤 H (𝓖 .A) (givenOf 𝓤 H 𝓜 𝓖) w64, tt)
+    let W = givenOf 𝓤 H 𝓜 𝓖 in
+    edits 𝓤 H 𝓜 𝓖 𝓡 (place 𝓤 H (𝓖 .A) W ∷ [])
     (λ r a. removeOf r (a .0)) (lent.clauses 𝓤 H (𝓖 .A) (𝓜 .mem) (𝓡 .run)) (λ κs a g. factI 𝓤 _ (emp 𝓤) (refl, refl, remove-kept (now (a .0)) (a .1 .0)))
     code.env key.name by-value.name (code.unfolded 𝓤 H 𝓜 𝓡) by-value.routine code.calls-opcode·record·OpCode·tstates-remove (by-value-thm.met 𝓤 H 𝓜 𝓖 𝓡)

@@ -5,12 +5,12 @@ use mathlib.Core.List.{[], _∷_}
 use base.Logic.{emp}
 use contract.Monad.{factI}
 use contract.Running.{givenOf}
-use denote.Struct.Laws as LL
 use Rattle.opcode.specs.Timing.{extendOf, pushOf}
-use Rattle.opcode.proofs.timing.Timing as X
-use Rattle.opcode.proofs.timing.Timing.Laws as X′
-use Rattle.opcode.proofs.counts.TStates as S
-use Rattle.opcode.proofs.counts.TStates.Laws as S′
+use Rattle.opcode.proofs.timing.Timing as timing
+use Rattle.opcode.proofs.timing.Timing.Laws as timing-laws
+use Rattle.opcode.proofs.counts.TStates as tstates
+use Rattle.opcode.proofs.counts.TStates.Laws as tstates-laws
+use Rattle.lent.proofs.Parameter.{struct}
 use Rattle.lent.proofs.tstates_extend.Symbol as first
 use Rattle.lent.proofs.tstates_extend.Met as first-thm
 use Rattle.lent.proofs.tstates_push.Symbol as second
@@ -25,6 +25,6 @@ pub extend-and-push-spec : {M : Type 1} → stated.statement M
 unfolding code.routine
 extend-and-push-spec 𝓤 H 𝓜 𝓖 𝓡 =
     let W = givenOf 𝓤 H 𝓜 𝓖 in
-    owns-and-lends 𝓤 H 𝓜 𝓖 𝓡 (X.the-row ∷ []) (S.the-row ∷ []) (LL.vals X.the-type X′.the-laws, (LL.vals S.the-type S′.the-laws, tt)) (LL.tells X.the-type X′.the-laws, (LL.tells S.the-type S′.the-laws, tt)) (LL.lawful X.the-type X′.the-laws 𝓤 H (𝓖 .A) W, tt) (LL.lawful S.the-type S′.the-laws 𝓤 H (𝓖 .A) W, tt)
+    owns-and-lends 𝓤 H 𝓜 𝓖 𝓡 (struct 𝓤 H (𝓖 .A) W timing.the-type timing-laws.the-laws ∷ []) (struct 𝓤 H (𝓖 .A) W tstates.the-type tstates-laws.the-laws ∷ [])
     (λ r a. extendOf r (a .0)) (λ r a. pushOf r (a .0)) (owner.clauses 𝓤 H (𝓖 .A) (𝓜 .mem) (𝓡 .run)) (λ κs a g. factI 𝓤 _ (emp 𝓤) refl)
     code.env key.name first.name second.name (code.unfolded 𝓤 H 𝓜 𝓡) first.routine code.calls-lent·tstates-extend (first-thm.met 𝓤 H 𝓜 𝓖 𝓡) second.routine code.calls-lent·tstates-push (second-thm.met 𝓤 H 𝓜 𝓖 𝓡)

@@ -2,16 +2,13 @@
 -- Assumes nothing.
 use mathlib.Core.Path.{refl}
 use mathlib.Core.List.{[], _∷_}
-use mir.Syntax.{w64}
 use base.Logic.{emp}
 use contract.Monad.{factI}
 use contract.Running.{givenOf}
-use denote.Builtin.{usize}
-use denote.Plain.{uint-vals, uint-tells, uint-lawful}
-use denote.Struct.Laws as LL
 use Rattle.opcode.specs.Timing.{insertOf, removeOf}
-use Rattle.opcode.proofs.timing.Timing as X
-use Rattle.opcode.proofs.timing.Timing.Laws as X′
+use Rattle.opcode.proofs.timing.Timing as timing
+use Rattle.opcode.proofs.timing.Timing.Laws as timing-laws
+use Rattle.lent.proofs.Parameter.{place, struct}
 use Rattle.lent.proofs.tstates_insert.Symbol as first
 use Rattle.lent.proofs.tstates_insert.Met as first-thm
 use Rattle.lent.proofs.tstates_remove.Symbol as second
@@ -26,6 +23,6 @@ pub insert-and-remove-spec : {M : Type 1} → stated.statement M
 unfolding code.routine
 insert-and-remove-spec 𝓤 H 𝓜 𝓖 𝓡 =
     let W = givenOf 𝓤 H 𝓜 𝓖 in
-    owns-and-lends 𝓤 H 𝓜 𝓖 𝓡 (usize ∷ X.the-row ∷ []) (usize ∷ []) (uint-vals w64, (LL.vals X.the-type X′.the-laws, (uint-vals w64, tt))) (uint-tells w64, (LL.tells X.the-type X′.the-laws, (uint-tells w64, tt))) (uint-lawful 𝓤 H (𝓖 .A) W w64, (LL.lawful X.the-type X′.the-laws 𝓤 H (𝓖 .A) W, tt)) (uint-lawful 𝓤 H (𝓖 .A) W w64, tt)
+    owns-and-lends 𝓤 H 𝓜 𝓖 𝓡 (place 𝓤 H (𝓖 .A) W ∷ struct 𝓤 H (𝓖 .A) W timing.the-type timing-laws.the-laws ∷ []) (place 𝓤 H (𝓖 .A) W ∷ [])
     (λ r a. insertOf r (a .0) (a .1 .0)) (λ r a. removeOf r (a .0)) (owner.clauses 𝓤 H (𝓖 .A) (𝓜 .mem) (𝓡 .run)) (λ κs a g. factI 𝓤 _ (emp 𝓤) refl)
     code.env key.name first.name second.name (code.unfolded 𝓤 H 𝓜 𝓡) first.routine code.calls-lent·tstates-insert (first-thm.met 𝓤 H 𝓜 𝓖 𝓡) second.routine code.calls-lent·tstates-remove (second-thm.met 𝓤 H 𝓜 𝓖 𝓡)
