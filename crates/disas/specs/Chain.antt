@@ -1,54 +1,48 @@
--- The stages in their order, as the decoder goes through them. No promise rests on this file: the chain is proved equal to the table. Definitions only.
-use Prim.Native.Nat.{ℕ}
-use mathlib.Core.Bool.{cond, not, _&&_}
-use mathlib.Core.List.{List, [], _∷_}
+-- The pages and the prefix step, as the decoder goes through them. No promise rests on this file: they are proved equal to the table. Definitions only.
+use Prim.Native.Nat.{ℕ, _/_, _%_}
+use mathlib.Core.Bool.{cond, _||_}
+use mathlib.Core.List.{List}
 use lib.Dec.{eqb, ltb}
 use lib.ListN.{length, drop, getD}
-use Rattle.opcode.specs.declared.record.OpCode.{OpCode}
 use Rattle.table.specs.Row.{gap}
-use Rattle.table.specs.Plain.{plain}
-use Rattle.table.specs.Decode.{isPrefix, pageRow, operandBytes}
+use Rattle.table.specs.Cb.{cb}
+use Rattle.table.specs.Decode.{isPrefix, pageRow}
 use Rattle.table.specs.Consequences.{first, second}
-use Rattle.table.specs.Steps.{named}
-use Rattle.stage.specs.declared.rows.Stage.{Stage}
-use Rattle.stage.specs.Stage.{passed, answer, ofLength, orNext}
-use Rattle.four_bytes.specs.Last.{lastOf}
-use Rattle.index.specs.Replaced.{replaced}
+use Rattle.packed.specs.Packed.{packed}
+use Rattle.prefix.specs.Changed.{changedOf, bitsOf, loadOf}
 
--- the stages over the bytes s, from those of four bytes on, p being what the prefix step makes of them
-unfoldable pub fromFour : Stage → List ℕ → Stage
-fromFour p s = orNext p (lastOf (first s) (second s) (getD s 2 0) (getD s 3 0) (p .rec))
+-- NOP, length 1, [4]
+abbrev pub nop : ℕ
+nop = 0x4000001100000023
 
-unfoldable pub fromThree : Stage → List ℕ → OpCode → Stage
-fromThree p s o =
-    cond (ltb (length s) 3) (passed o)
-    (orNext (answer (ofLength 3 (getD plain (first s) gap)) (second s ∷ getD s 2 0 ∷ []) o)
-    (cond (ltb (length s) 4) (passed o) (fromFour p s)))
+-- where the bytes behind the code begin: CB, ED, DD and FD have a second byte of code
+abbrev pub behindCode : ℕ → ℕ
+behindCode b = cond (isPrefix b || (eqb b 0xCB || eqb b 0xED)) 2 1
 
-unfoldable pub fromTwo : Stage → List ℕ → OpCode → Stage
-fromTwo p s o =
-    cond (ltb (length s) 2) (passed o)
-    (orNext (answer (ofLength 2 (pageRow (first s) (second s))) (operandBytes (first s ∷ second s ∷ [])) o)
-    (fromThree p s o))
+-- the row r if all its bytes are among n; four bytes that no row takes are a NOP
+unfoldable pub wholeOf : ℕ → ℕ → ℕ
+wholeOf r n = cond (eqb r 0) (cond (eqb n 4) nop 0) (cond (ltb n (r / 0x100000000 % 16)) 0 r)
 
-unfoldable pub chainOf : Stage → List ℕ → OpCode → Stage
-chainOf p s o =
-    cond (eqb (length s) 0) (passed o)
-    (orNext (answer (ofLength 1 (getD plain (first s) gap)) [] o)
-    (fromTwo p s o))
+-- the row of the bytes s, p being what the prefix step makes of them
+unfoldable pub chainOf : ℕ → List ℕ → ℕ
+chainOf p s =
+    cond (eqb (length s) 0) 0
+    (cond (isPrefix (first s)) (cond (ltb (length s) 4) 0 p)
+    (wholeOf (packed (pageRow (first s) (second s))) (length s)))
 
 -- three bytes or fewer: the prefix step is not reached
-abbrev pub restOf : List ℕ → OpCode → Stage
-restOf s o = chainOf (passed o) s o
+abbrev pub restOf : List ℕ → ℕ
+restOf s = chainOf 0 s
 
--- what becomes of the bytes behind a prefix, r being what they decode to
-abbrev pub replacedOf : Stage → List ℕ → OpCode → Stage
-replacedOf r s o = cond (r .ok) (replaced (named (first s)) (getD s 2 0) (getD s 3 0) (r .rec)) (passed o)
+-- the prefix step, r being the row of the bytes behind the prefix
+unfoldable pub prefixOf : ℕ → List ℕ → ℕ
+prefixOf r s =
+    cond (eqb (second s) 0xCB) (bitsOf (first s) (getD s 3 0) (packed (getD cb (getD s 3 0) gap)))
+    (cond (eqb (second s) 0xEB) nop
+    (cond (eqb (second s) 0x36) (loadOf (first s))
+    (cond (eqb r 0) nop
+    (changedOf (first s) r))))
 
--- the prefix step: DD or FD before anything but CB and EB
-unfoldable pub prefixOf : Stage → List ℕ → OpCode → Stage
-prefixOf r s o = cond (isPrefix (first s) && (not (eqb (second s) 0xCB) && not (eqb (second s) 0xEB))) (replacedOf r s o) (passed o)
-
--- the whole decoder: a prefix hands the rest to the stages
-abbrev pub decoderOf : List ℕ → OpCode → Stage
-decoderOf s o = chainOf (prefixOf (restOf (drop 1 s) o) s o) s o
+-- the whole decoder: a prefix hands the rest to the pages
+abbrev pub decoderOf : List ℕ → ℕ
+decoderOf s = chainOf (prefixOf (restOf (drop 1 s)) s) s

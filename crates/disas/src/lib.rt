@@ -1,20 +1,23 @@
-// From bytes to a record: the stages one after the other, and the step for DD and FD, which hands the rest back to them.
+// From bytes to a record: the row of the opcode pages, and the step for DD and FD, which hands the rest back to them.
 ghost use mathlib.Core.Path.{_≡_};
 ghost use Prim.Native.Nat.{_≤_};
 ghost use lib.ListN.{length, drop, getD};
-ghost use Rattle.table.specs.Decode.{four, refused, decodeOf};
-ghost use Rattle.disas.specs.Chain.{restOf, prefixOf, decoderOf};
-use four_bytes::four_bytes;
-use index::replace;
-use one_byte::one_byte;
+ghost use Rattle.table.specs.Decode.{isPrefix, pageRow, four, refused, decodeOf};
+ghost use Rattle.packed.specs.Packed.{packed};
+ghost use Rattle.disas.specs.Chain.{wholeOf, behindCode, restOf, prefixOf, decoderOf};
+use cb_page::cb_row;
+use ed_page::ed_row;
 use opcode::record::OpCode;
-use stage::operands::is_prefix;
-use stage::rows::Stage;
-use stage::rows::pass;
+use packed::record::made;
+use plain_page::plain_row;
+use prefix::bits;
+use prefix::changed;
+use prefix::load_indexed;
 use table::Answer;
 use table::Decoded;
-use three_bytes::three_bytes;
-use two_bytes::two_bytes;
+
+// NOP, length 1, [4]
+const NOP: u64 = 0x400000_11_00_00_00_23;
 
 // The row at the front of one to four bytes; a refusal has the empty record.
 pub fn disas(ins: &[u8]) -> Decoded
@@ -27,18 +30,18 @@ pub fn disas(ins: &[u8]) -> Decoded
     if OpCode::LENGTH_MAX < n {
         return refuse(Answer::Long);
     }
-    let mut fresh = OpCode::new();
-    let data = ins_to_data(ins);
-    fresh.data = data;
-    let decoded = disas_ref(ins, fresh);
-    if decoded.ok {
-        let rec = decoded.rec;
-        return Decoded {
-            answer: Answer::Done,
-            rec,
-        };
+    let row = disas_ref(ins);
+    if row == 0 {
+        return refuse(Answer::Short);
     }
-    refuse(Answer::Short)
+    let at = behind_code(ins[0]);
+    let lo = byte_at(ins, at);
+    let hi = byte_at(ins, at + 1);
+    let data = ins_to_data(ins);
+    Decoded {
+        answer: Answer::Done,
+        rec: made(row, lo, hi, data),
+    }
 }
 
 fn refuse(answer: Answer) -> Decoded
@@ -72,69 +75,100 @@ fn ins_to_data(ins: &[u8]) -> [u8; 4]
     ]
 }
 
-// The stages in their order. Four bytes that none of the first three takes go to the prefix step.
-fn disas_ref(ins: &[u8], rec: OpCode) -> Stage
+// Where the bytes behind the code begin: CB, ED, DD and FD have a second byte of code.
+fn behind_code(ins1: u8) -> usize
+    ensures { λ k. ⌜ k ≡ behindCode ins1 ⌝ }
+{
+    if is_prefix(ins1) {
+        return 2;
+    }
+    if ins1 == 0xCB {
+        return 2;
+    }
+    if ins1 == 0xED {
+        return 2;
+    }
+    1
+}
+
+fn is_prefix(ins1: u8) -> bool
+    ensures { λ t. ⌜ t ≡ isPrefix ins1 ⌝ }
+{
+    if ins1 == 0xDD {
+        return true;
+    }
+    ins1 == 0xFD
+}
+
+// The row with no DD or FD in front.
+fn page_row(ins1: u8, ins2: u8) -> u64
+    ensures { λ r. ⌜ r ≡ packed (pageRow ins1 ins2) ⌝ }
+{
+    if ins1 == 0xCB {
+        return cb_row(ins2);
+    }
+    if ins1 == 0xED {
+        return ed_row(ins2);
+    }
+    plain_row(ins1)
+}
+
+// The row if all its bytes are among n; four bytes that no row takes are a NOP.
+fn whole(row: u64, n: usize) -> u64
+    ensures { λ r. ⌜ r ≡ wholeOf row n ⌝ }
+{
+    if row == 0 {
+        if n == OpCode::LENGTH_MAX {
+            return NOP;
+        }
+        return 0;
+    }
+    if n < (row / 0x1_00_00_00_00 % 16) as usize {
+        return 0;
+    }
+    row
+}
+
+// The row of some bytes, and 0 where they are too few. A prefix goes to the prefix step.
+fn disas_ref(ins: &[u8]) -> u64
     requires { ⌜ length (now ins) ≤ 4 ⌝ }
-    ensures { λ r. ⌜ r ≡ decoderOf (now (ins .entry)) rec ⌝ }
+    ensures { λ r. ⌜ r ≡ decoderOf (now (ins .entry)) ⌝ }
 {
     let n = ins.len();
     if n == 0 {
-        return pass(rec);
+        return 0;
     }
     let ins1 = ins[0];
-    let one = one_byte(ins1, rec);
-    if one.ok {
-        return one;
+    if is_prefix(ins1) {
+        if n < OpCode::LENGTH_MAX {
+            return 0;
+        }
+        return disas_dd_fd_prefix(ins);
     }
-    if n < 2 {
-        return pass(rec);
-    }
-    let ins2 = ins[1];
-    let two = two_bytes(ins1, ins2, rec);
-    if two.ok {
-        return two;
-    }
-    if n < 3 {
-        return pass(rec);
-    }
-    let ins3 = ins[2];
-    let three = three_bytes(ins1, ins2, ins3, rec);
-    if three.ok {
-        return three;
-    }
-    if n < 4 {
-        return pass(rec);
-    }
-    let prefixed = disas_dd_fd_prefix(ins, rec);
-    if prefixed.ok {
-        return prefixed;
-    }
-    let inner = prefixed.rec;
-    four_bytes(ins1, ins2, ins3, ins[3], inner)
+    let row = page_row(ins1, byte_at(ins, 1));
+    whole(row, n)
 }
 
-// DD or FD before anything but CB and EB: the rest is decoded, and HL in it replaced.
-fn disas_dd_fd_prefix(ins: &[u8], rec: OpCode) -> Stage
+// DD or FD before anything but CB, EB and LD (HL), n: the rest is decoded, and HL in it replaced.
+fn disas_dd_fd_prefix(ins: &[u8]) -> u64
     requires { ⌜ length (now ins) ≡ 4 ⌝ }
-    ensures { λ r. ⌜ r ≡ prefixOf (restOf (drop 1 (now (ins .entry))) rec) (now (ins .entry)) rec ⌝ }
+    ensures { λ r. ⌜ r ≡ prefixOf (restOf (drop 1 (now (ins .entry)))) (now (ins .entry)) ⌝ }
 {
     let ins1 = ins[0];
-    if !is_prefix(ins1) {
-        return pass(rec);
-    }
     let ins2 = ins[1];
     if ins2 == 0xCB {
-        return pass(rec);
+        let ins4 = ins[3];
+        return bits(cb_row(ins4), ins4, ins1);
     }
     if ins2 == 0xEB {
-        return pass(rec);
+        return NOP;
     }
-    let rest = disas_ref(&ins[1..], rec);
-    if !rest.ok {
-        return pass(rec);
+    if ins2 == 0x36 {
+        return load_indexed(ins1);
     }
-    let ins3 = ins[2];
-    let ins4 = ins[3];
-    let inner = rest.rec;
-    replace(inner, ins1, ins3, ins4)
+    let rest = disas_ref(&ins[1..]);
+    if rest == 0 {
+        return NOP;
+    }
+    changed(rest, ins1)
 }

@@ -1,0 +1,16 @@
+-- `condition_at` meets its contract, an arm at a time. Assumes nothing.
+use mathlib.Core.Path.{sym}
+use Rattle.opcode.specs.declared.registers.FlagCondition.{FlagCondition}
+use Rattle.packed.specs.Named.{numbered, conditions, conditionAt}
+use Rattle.packed.proofs.Keys.{at-none}
+use Rattle.packed.proofs.named.condition_at.Statement.{statement}
+use Rattle.packed.proofs.named.condition_at.Tie as tie
+
+pub condition-at-spec : {M : Type 1} → statement M
+unfolding conditionAt
+condition-at-spec =
+    tie.close
+    (tie.spec
+    (λ c. rw (c .match .keys1)) (λ c. rw (c .match .keys2)) (λ c. rw (c .match .keys3)) (λ c. rw (c .match .keys4))
+    (λ c. rw (c .match .keys5)) (λ c. rw (c .match .keys6)) (λ c. rw (c .match .keys7))
+    (λ c. sym (at-none (c .before .args .n) (numbered 0 conditions) FlagCondition.M (c .match .rest))))

@@ -1,3 +1,0 @@
-pub mod Integers
-pub mod Keys
-pub mod Orders

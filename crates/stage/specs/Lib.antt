@@ -1,3 +1,0 @@
-pub mod Choice
-pub mod Operands
-pub mod Stage
