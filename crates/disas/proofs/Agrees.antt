@@ -23,7 +23,7 @@ use Rattle.table.proofs.Answers.{prefixed}
 use Rattle.packed.specs.Named.{instructionAt, reg8At, reg16At, conditionAt}
 use Rattle.packed.specs.Packed.{packed, readKind, kindAt, recordFrom}
 use Rattle.prefix.specs.Changed.{indexed, isHl, renamed, withAddr, withHl, changedOf, besides, bitsOf}
-use Rattle.disas.specs.Chain.{wholeOf, chainOf, prefixOf, decoderOf}
+use Rattle.disas.specs.Chain.{wholeOf, wholeEd, chainOf, prefixOf, decoderOf}
 
 -- what a row, as a number, answers over the bytes s: 0 says that they are too few
 abbrev pub answered : ℕ → List ℕ → Decoded
@@ -80,19 +80,19 @@ by-page b0 b1 l codes h0 h1 q =
     (λ e. by-code (λ (b : ℕ). leads b || isPrefix b) (λ (b : ℕ). b ∷ b1 ∷ l) (codes .plain-codes) b0 h0 (rw (e, q)))
 
 one-meets : (b0 : ℕ) → b0 < 256 → Meet (b0 ∷ [])
-unfolding plain cb ed pageRow rowOf behindRow decodeOf chainOf wholeOf packed kindAt readKind instructionAt reg8At reg16At conditionAt
+unfolding plain cb ed pageRow rowOf behindRow decodeOf chainOf wholeOf wholeEd packed kindAt readKind instructionAt reg8At reg16At conditionAt
 one-meets b0 h0 = by-code every (λ (b : ℕ). b ∷ []) refl b0 h0 refl
 
 two-codes : (b1 : ℕ) → Codes b1 []
-unfolding plain cb ed pageRow rowOf decodeOf chainOf wholeOf packed kindAt readKind instructionAt reg8At reg16At conditionAt
+unfolding plain cb ed pageRow rowOf decodeOf chainOf wholeOf wholeEd packed kindAt readKind instructionAt reg8At reg16At conditionAt
 two-codes b1 = record { plain-codes = refl; cb-codes = refl; ed-codes = refl }
 
 three-codes : (b1 b2 : ℕ) → Codes b1 (b2 ∷ [])
-unfolding plain cb ed pageRow rowOf decodeOf chainOf wholeOf packed kindAt readKind instructionAt reg8At reg16At conditionAt
+unfolding plain cb ed pageRow rowOf decodeOf chainOf wholeOf wholeEd packed kindAt readKind instructionAt reg8At reg16At conditionAt
 three-codes b1 b2 = record { plain-codes = refl; cb-codes = refl; ed-codes = refl }
 
 four-codes : (b1 b2 b3 : ℕ) → Codes b1 (b2 ∷ b3 ∷ [])
-unfolding plain cb ed pageRow rowOf decodeOf chainOf wholeOf packed kindAt readKind instructionAt reg8At reg16At conditionAt
+unfolding plain cb ed pageRow rowOf decodeOf chainOf wholeOf wholeEd packed kindAt readKind instructionAt reg8At reg16At conditionAt
 four-codes b1 b2 b3 = record { plain-codes = refl; cb-codes = refl; ed-codes = refl }
 
 -- two and three bytes that a prefix leads are Short
@@ -111,11 +111,11 @@ record Behind (p b1 b2 b3 : ℕ) : Type 0 where
   pub ed-behind : but every decoded (λ (b : ℕ). p ∷ 0xED ∷ b ∷ b3 ∷ []) ≡ but every decodeOf (λ (b : ℕ). p ∷ 0xED ∷ b ∷ b3 ∷ [])
 
 dd-behind : (b1 b2 b3 : ℕ) → Behind 0xDD b1 b2 b3
-unfolding plain cb ed pageRow rowOf behindRow decodeOf chainOf prefixOf wholeOf packed kindAt readKind instructionAt reg8At reg16At conditionAt indexed isHl renamed withAddr withHl changedOf besides bitsOf
+unfolding plain cb ed pageRow rowOf behindRow decodeOf chainOf prefixOf wholeOf wholeEd packed kindAt readKind instructionAt reg8At reg16At conditionAt indexed isHl renamed withAddr withHl changedOf besides bitsOf
 dd-behind b1 b2 b3 = record { plain-behind = refl; cb-behind = refl; ed-behind = refl }
 
 fd-behind : (b1 b2 b3 : ℕ) → Behind 0xFD b1 b2 b3
-unfolding plain cb ed pageRow rowOf behindRow decodeOf chainOf prefixOf wholeOf packed kindAt readKind instructionAt reg8At reg16At conditionAt indexed isHl renamed withAddr withHl changedOf besides bitsOf
+unfolding plain cb ed pageRow rowOf behindRow decodeOf chainOf prefixOf wholeOf wholeEd packed kindAt readKind instructionAt reg8At reg16At conditionAt indexed isHl renamed withAddr withHl changedOf besides bitsOf
 fd-behind b1 b2 b3 = record { plain-behind = refl; cb-behind = refl; ed-behind = refl }
 
 behind-meets : (p b1 b2 b3 : ℕ) → Behind p b1 b2 b3 → b1 < 256 → b2 < 256 → b3 < 256 → Meet (p ∷ b1 ∷ b2 ∷ b3 ∷ [])

@@ -5,8 +5,10 @@ use mathlib.Core.List.{List}
 use lib.Dec.{eqb, ltb}
 use lib.ListN.{length, drop, getD}
 use Rattle.table.specs.Row.{gap}
+use Rattle.table.specs.Plain.{plain}
 use Rattle.table.specs.Cb.{cb}
-use Rattle.table.specs.Decode.{isPrefix, pageRow}
+use Rattle.table.specs.Ed.{ed}
+use Rattle.table.specs.Decode.{isPrefix}
 use Rattle.table.specs.Consequences.{first, second}
 use Rattle.packed.specs.Packed.{packed}
 use Rattle.prefix.specs.Changed.{changedOf, bitsOf, loadOf}
@@ -19,16 +21,22 @@ nop = 0x4000001100000023
 abbrev pub behindCode : ℕ → ℕ
 behindCode b = cond (isPrefix b || (eqb b 0xCB || eqb b 0xED)) 2 1
 
--- the row r if all its bytes are among n; four bytes that no row takes are a NOP
+-- the row r, if all its bytes are among n
 unfoldable pub wholeOf : ℕ → ℕ → ℕ
-wholeOf r n = cond (eqb r 0) (cond (eqb n 4) nop 0) (cond (ltb n (r / 0x100000000 % 16)) 0 r)
+wholeOf r n = cond (ltb n (r / 0x100000000 % 16)) 0 r
+
+-- a row of the ED page; an undefined code in four bytes is a NOP
+unfoldable pub wholeEd : ℕ → ℕ → ℕ
+wholeEd r n = cond (eqb r 0) (cond (eqb n 4) nop 0) (wholeOf r n)
 
 -- the row of the bytes s, p being what the prefix step makes of them
 unfoldable pub chainOf : ℕ → List ℕ → ℕ
 chainOf p s =
     cond (eqb (length s) 0) 0
     (cond (isPrefix (first s)) (cond (ltb (length s) 4) 0 p)
-    (wholeOf (packed (pageRow (first s) (second s))) (length s)))
+    (cond (eqb (first s) 0xED) (wholeEd (packed (getD ed (second s) gap)) (length s))
+    (cond (eqb (first s) 0xCB) (wholeOf (packed (getD cb (second s) gap)) (length s))
+    (wholeOf (packed (getD plain (first s) gap)) (length s)))))
 
 -- three bytes or fewer: the prefix step is not reached
 abbrev pub restOf : List ℕ → ℕ

@@ -2,9 +2,9 @@
 ghost use mathlib.Core.Path.{_≡_};
 ghost use Prim.Native.Nat.{_≤_};
 ghost use lib.ListN.{length, drop, getD};
-ghost use Rattle.table.specs.Decode.{isPrefix, pageRow, four, refused, decodeOf};
-ghost use Rattle.packed.specs.Packed.{packed};
-ghost use Rattle.disas.specs.Chain.{wholeOf, behindCode, restOf, prefixOf, decoderOf};
+ghost use Rattle.table.specs.Decode.{isPrefix, four, decodeOf};
+ghost use Rattle.disas.specs.Chain.{wholeOf, wholeEd, behindCode, restOf, prefixOf, decoderOf};
+ghost use Rattle.disas.specs.Says.{nothingOf, foundOf};
 use cb_page::cb_row;
 use ed_page::ed_row;
 use opcode::record::OpCode;
@@ -19,37 +19,71 @@ use table::Decoded;
 // NOP, length 1, [4]
 const NOP: u64 = 0x400000_11_00_00_00_23;
 
+// What is found at the front of some bytes: the answer and, where that is Done, the row, the two bytes behind its code and the data.
+pub struct Found {
+    pub answer: Answer,
+    pub row: u64,
+    pub lo: u8,
+    pub hi: u8,
+    pub data: [u8; 4],
+}
+
 // The row at the front of one to four bytes; a refusal has the empty record.
 pub fn disas(ins: &[u8]) -> Decoded
     ensures { λ r. ⌜ r ≡ decodeOf (now (ins .entry)) ⌝ }
 {
+    let f = find(ins);
+    let answer = f.answer;
+    if f.row == 0 {
+        return Decoded {
+            answer,
+            rec: OpCode::new(),
+        };
+    }
+    let data = f.data;
+    Decoded {
+        answer,
+        rec: made(f.row, f.lo, f.hi, data),
+    }
+}
+
+// The row as a number.
+pub fn find(ins: &[u8]) -> Found
+    ensures { λ r. ⌜ r ≡ foundOf (now (ins .entry)) ⌝ }
+{
     let n = ins.len();
     if n == 0 {
-        return refuse(Answer::Nothing);
+        return nothing(Answer::Nothing);
     }
     if OpCode::LENGTH_MAX < n {
-        return refuse(Answer::Long);
+        return nothing(Answer::Long);
     }
     let row = disas_ref(ins);
     if row == 0 {
-        return refuse(Answer::Short);
+        return nothing(Answer::Short);
     }
     let at = behind_code(ins[0]);
     let lo = byte_at(ins, at);
     let hi = byte_at(ins, at + 1);
     let data = ins_to_data(ins);
-    Decoded {
+    Found {
         answer: Answer::Done,
-        rec: made(row, lo, hi, data),
+        row,
+        lo,
+        hi,
+        data,
     }
 }
 
-fn refuse(answer: Answer) -> Decoded
-    ensures { λ r. ⌜ r ≡ refused answer ⌝ }
+fn nothing(answer: Answer) -> Found
+    ensures { λ r. ⌜ r ≡ nothingOf answer ⌝ }
 {
-    Decoded {
+    Found {
         answer,
-        rec: OpCode::new(),
+        row: 0,
+        lo: 0,
+        hi: 0,
+        data: [0; 4],
     }
 }
 
@@ -100,22 +134,19 @@ fn is_prefix(ins1: u8) -> bool
     ins1 == 0xFD
 }
 
-// The row with no DD or FD in front.
-fn page_row(ins1: u8, ins2: u8) -> u64
-    ensures { λ r. ⌜ r ≡ packed (pageRow ins1 ins2) ⌝ }
-{
-    if ins1 == 0xCB {
-        return cb_row(ins2);
-    }
-    if ins1 == 0xED {
-        return ed_row(ins2);
-    }
-    plain_row(ins1)
-}
-
-// The row if all its bytes are among n; four bytes that no row takes are a NOP.
+// The row, if all its bytes are among n.
 fn whole(row: u64, n: usize) -> u64
     ensures { λ r. ⌜ r ≡ wholeOf row n ⌝ }
+{
+    if n < (row / 0x1_00_00_00_00 % 16) as usize {
+        return 0;
+    }
+    row
+}
+
+// A row of the ED page, if all its bytes are among n; an undefined code in four bytes is a NOP.
+fn whole_ed(row: u64, n: usize) -> u64
+    ensures { λ r. ⌜ r ≡ wholeEd row n ⌝ }
 {
     if row == 0 {
         if n == OpCode::LENGTH_MAX {
@@ -123,10 +154,7 @@ fn whole(row: u64, n: usize) -> u64
         }
         return 0;
     }
-    if n < (row / 0x1_00_00_00_00 % 16) as usize {
-        return 0;
-    }
-    row
+    whole(row, n)
 }
 
 // The row of some bytes, and 0 where they are too few. A prefix goes to the prefix step.
@@ -145,8 +173,13 @@ fn disas_ref(ins: &[u8]) -> u64
         }
         return disas_dd_fd_prefix(ins);
     }
-    let row = page_row(ins1, byte_at(ins, 1));
-    whole(row, n)
+    if ins1 == 0xED {
+        return whole_ed(ed_row(byte_at(ins, 1)), n);
+    }
+    if ins1 == 0xCB {
+        return whole(cb_row(byte_at(ins, 1)), n);
+    }
+    whole(plain_row(ins1), n)
 }
 
 // DD or FD before anything but CB, EB and LD (HL), n: the rest is decoded, and HL in it replaced.

@@ -24,8 +24,10 @@ use Rattle.disas.proofs.+disas_dd_fd_prefix+disas_ref.Lts-disas_ref as 
 use Rattle.cb_page.proofs.cb_row.Reads as cb-row
 use Rattle.disas.proofs.byte_at.Reads as byte-at
 use Rattle.disas.proofs.is_prefix.Reads as is-prefix
-use Rattle.disas.proofs.page_row.Reads as page-row
 use Rattle.disas.proofs.whole.Reads as whole
+use Rattle.disas.proofs.whole_ed.Reads as whole-ed
+use Rattle.ed_page.proofs.ed_row.Reads as ed-row
+use Rattle.plain_page.proofs.plain_row.Reads as plain-row
 use Rattle.prefix.proofs.bits.Reads as bits
 use Rattle.prefix.proofs.changed.Reads as changed
 use Rattle.prefix.proofs.load_indexed.Reads as load-indexed
@@ -55,7 +57,7 @@ abbrev prefix-told : ℕ → prefix-lts.Claims
 prefix-told t = (cb-row.Asked, cb-row.Learnt, bits.Asked, bits.Learnt, load-indexed.Asked, load-indexed.Learnt, decoder-below t, decoder.Post, changed.Asked, changed.Learnt)
 
 abbrev decoder-told : ℕ → decoder-lts.Claims
-decoder-told t = (is-prefix.Asked, is-prefix.Learnt, prefix-below t, prefix.Post, byte-at.Asked, byte-at.Learnt, page-row.Asked, page-row.Learnt, whole.Asked, whole.Learnt)
+decoder-told t = (is-prefix.Asked, is-prefix.Learnt, prefix-below t, prefix.Post, byte-at.Asked, byte-at.Learnt, ed-row.Asked, ed-row.Learnt, whole-ed.Asked, whole-ed.Learnt, cb-row.Asked, cb-row.Learnt, whole.Asked, whole.Learnt, plain-row.Asked, plain-row.Learnt)
 
 -- CB, EB and LD (HL),n are not behind the prefix, so the rest is decoded
 past-tests :
@@ -104,5 +106,16 @@ unfolding chainOf prefixOf
     (λ c κs. search needs)
     (λ c κs. search needs)
     (λ c.
-    let tests = c .before .before .before in
-    rw (ne-eqb _ _ (tests .before .before .before .if1 .left), sym (tests .before .is-prefix .ensures) ∙ tests .if2 .left, ← c .before .before .byte-at .ensures, ← c .before .page-row .ensures) (c .whole .ensures)))
+    let tests = c .before .before .before .before in
+    rw (ne-eqb _ _ (tests .before .before .before .if1 .left), sym (tests .before .is-prefix .ensures) ∙ tests .if2 .left, eq-eqb _ _ (c .before .before .before .if4 .taken), ← c .before .before .byte-at .ensures, ← c .before .ed-row .ensures) (c .whole-ed .ensures))
+    (λ c κs. search needs)
+    (λ c κs. search needs)
+    (λ c κs. search needs)
+    (λ c.
+    let tests = c .before .before .before .before .before in
+    rw (ne-eqb _ _ (tests .before .before .before .if1 .left), sym (tests .before .is-prefix .ensures) ∙ tests .if2 .left, ne-eqb _ _ (c .before .before .before .before .if4 .left), eq-eqb _ _ (c .before .before .before .if5 .taken), ← c .before .before .byte-at2 .ensures, ← c .before .cb-row .ensures) (c .whole .ensures))
+    (λ c κs. search needs)
+    (λ c κs. search needs)
+    (λ c.
+    let tests = c .before .before .before .before in
+    rw (ne-eqb _ _ (tests .before .before .before .if1 .left), sym (tests .before .is-prefix .ensures) ∙ tests .if2 .left, ne-eqb _ _ (c .before .before .before .if4 .left), ne-eqb _ _ (c .before .before .if5 .left), ← c .before .plain-row .ensures) (c .whole2 .ensures)))
