@@ -2,8 +2,8 @@
 ghost use mathlib.Core.Path.{_≡_};
 ghost use Rattle.table.specs.Decode.{numberOf, decodeOf};
 ghost use Rattle.exports.specs.Record.{recordNumber, recordBytes};
-use disas::disas;
-use layout::layout;
+use disas::find;
+use layout::layout_row;
 use table::Answer;
 
 // The paper's number of an answer.
@@ -24,8 +24,8 @@ pub extern "C" fn z80_record(ins: &[u8], out: &mut [u8]) -> u8
     ensures number { λ n. ⌜ n ≡ recordNumber (decodeOf (now (ins .entry))) (now (out .entry)) ⌝ }
     ensures bytes { λ _. ⌜ now (out .exit) ≡ recordBytes (decodeOf (now (ins .entry))) (now (out .entry)) ⌝ }
 {
-    let decoded = disas(ins);
-    let answer = decoded.answer;
+    let f = find(ins);
+    let answer = f.answer;
     let n = number(answer);
     if n != 0 {
         return n;
@@ -33,8 +33,8 @@ pub extern "C" fn z80_record(ins: &[u8], out: &mut [u8]) -> u8
     if out.len() < layout::SIZE {
         return 4;
     }
-    let rec = decoded.rec;
-    let fields = layout(rec);
+    let data = f.data;
+    let fields = layout_row(f.row, f.lo, f.hi, data);
     bytes::copy(&fields, out);
     0
 }

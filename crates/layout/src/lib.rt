@@ -1,13 +1,19 @@
 // A record as the 22 bytes that a host reads: length; instruction; three operand places of kind, value low and value
 // high; four data bytes; six T-states; machine cycles.
 mod operand;
+mod row;
 
 ghost use mathlib.Core.Path.{_≡_};
+ghost use mathlib.Core.List.{[], _∷_, _++_};
+ghost use Rattle.packed.specs.Packed.{recordFrom};
 ghost use Rattle.layout.specs.Layout.{statesOf, layoutOf};
 use names::numbers::instruction_number;
 use opcode::counts::TStates;
 use opcode::record::OpCode;
 use operand::place;
+use row::instruction_byte;
+use row::place_at;
+use row::states_at;
 
 // A record's size in bytes.
 pub const SIZE: usize = 22;
@@ -25,6 +31,45 @@ fn states(t: [TStates; 6]) -> [u8; 6]
     [a.0, b.0, c.0, d.0, e.0, f.0]
 }
 
+// The parts one behind the other.
+fn joined(
+    length: u8,
+    ins: u8,
+    op1: [u8; 3],
+    op2: [u8; 3],
+    op3: [u8; 3],
+    bytes: [u8; 4],
+    tstates: [u8; 6],
+    mcycles: u8,
+) -> [u8; 22]
+    ensures { λ b. ⌜ b ≡ length ∷ ins ∷ op1 ++ (op2 ++ (op3 ++ (bytes ++ (tstates ++ mcycles ∷ [])))) ⌝ }
+{
+    [
+        length,
+        ins,
+        op1[0],
+        op1[1],
+        op1[2],
+        op2[0],
+        op2[1],
+        op2[2],
+        op3[0],
+        op3[1],
+        op3[2],
+        bytes[0],
+        bytes[1],
+        bytes[2],
+        bytes[3],
+        tstates[0],
+        tstates[1],
+        tstates[2],
+        tstates[3],
+        tstates[4],
+        tstates[5],
+        mcycles,
+    ]
+}
+
 // The record as a host reads it, also one made by hand.
 pub fn layout(rec: OpCode) -> [u8; 22]
     ensures { λ b. ⌜ b ≡ layoutOf rec ⌝ }
@@ -34,7 +79,7 @@ pub fn layout(rec: OpCode) -> [u8; 22]
     let op1 = rec.op1;
     let op2 = rec.op2;
     let op3 = rec.op3;
-    let d = rec.data;
+    let data = rec.data;
     let tstates = rec.tstates;
     let mcycles = rec.mcycles;
     let n = instruction_number(ins);
@@ -42,28 +87,19 @@ pub fn layout(rec: OpCode) -> [u8; 22]
     let y = place(op2);
     let z = place(op3);
     let t = states(tstates);
-    [
-        length.0,
-        n,
-        x[0],
-        x[1],
-        x[2],
-        y[0],
-        y[1],
-        y[2],
-        z[0],
-        z[1],
-        z[2],
-        d[0],
-        d[1],
-        d[2],
-        d[3],
-        t[0],
-        t[1],
-        t[2],
-        t[3],
-        t[4],
-        t[5],
-        mcycles.0,
-    ]
+    joined(length.0, n, x, y, z, data, t, mcycles.0)
+}
+
+// The same of a row that is a number, without its record: over the two bytes behind its code and the data.
+pub fn layout_row(row: u64, lo: u8, hi: u8, data: [u8; 4]) -> [u8; 22]
+    ensures { λ b. ⌜ b ≡ layoutOf (recordFrom row (lo ∷ hi ∷ []) «data») ⌝ }
+{
+    let length = (row / 0x1_00_00_00_00 % 16) as u8;
+    let mcycles = (row / 0x10_00_00_00_00 % 16) as u8;
+    let n = instruction_byte((row % 256) as u8);
+    let x = place_at((row / 0x1_00 % 256) as u8, lo, hi);
+    let y = place_at((row / 0x1_00_00 % 256) as u8, lo, hi);
+    let z = place_at((row / 0x1_00_00_00 % 256) as u8, lo, hi);
+    let t = states_at(row);
+    joined(length, n, x, y, z, data, t, mcycles)
 }

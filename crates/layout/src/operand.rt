@@ -9,7 +9,7 @@ use opcode::operand::Place;
 use opcode::registers::RegI;
 
 // A displacement in two's complement: the bits of a number below zero, turned over, are how far it is below -1.
-fn byte_of(d: i8) -> u8
+pub(crate) fn byte_of(d: i8) -> u8
     ensures { λ n. ⌜ n ≡ complementOf 255 d ⌝ }
 {
     if d < 0 {
@@ -19,7 +19,7 @@ fn byte_of(d: i8) -> u8
 }
 
 // A relative operand in two's complement.
-fn word_of(e: i16) -> u16
+pub(crate) fn word_of(e: i16) -> u16
     ensures { λ n. ⌜ n ≡ complementOf 65535 e ⌝ }
 {
     if e < 0 {
