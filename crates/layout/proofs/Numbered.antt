@@ -12,8 +12,8 @@ use Rattle.table.specs.Consequences.{values}
 use Rattle.table.proofs.Upto.{agree}
 use Rattle.packed.specs.Named.{instructionAt, reg8At, reg16At, conditionAt}
 use Rattle.packed.specs.Packed.{readKind, kindAt}
-use Rattle.layout.specs.Layout.{tripleOf, placeOf}
-use Rattle.layout.specs.Row.{lesserOf, fixedKind, kindByte, mostOf, fixedValue, readValue, valueAt}
+use Rattle.layout.specs.Layout.{placeOf}
+use Rattle.layout.specs.Row.{lesserOf, fixedKind, mostOf, fixedValue, tripleAt}
 
 pub instruction-is : (n : ℕ) → n < 256 → lesserOf n 67 ≡ instructionOf (instructionAt n)
 unfolding lesserOf instructionAt
@@ -28,6 +28,6 @@ lesser-most n most = by-test (ltb n most) refl
     by-test false e = ltb-false n most e
 
 module _ (lo hi : ℕ) where
-  pub place-is : (k : ℕ) → k < 256 → tripleOf (kindByte k) (valueAt k lo hi) ≡ placeOf (read (kindAt k) (lo ∷ hi ∷ []))
-  unfolding lesserOf fixedKind kindByte mostOf fixedValue readValue valueAt readKind kindAt reg8At reg16At conditionAt
-  place-is = agree (λ (k : ℕ). tripleOf (kindByte k) (valueAt k lo hi)) (λ (k : ℕ). placeOf (read (kindAt k) (lo ∷ hi ∷ []))) [] 256 refl
+  pub place-is : (k : ℕ) → k < 256 → tripleAt k lo hi ≡ placeOf (read (kindAt k) (lo ∷ hi ∷ []))
+  unfolding lesserOf fixedKind mostOf fixedValue tripleAt readKind kindAt reg8At reg16At conditionAt
+  place-is = agree (λ (k : ℕ). tripleAt k lo hi) (λ (k : ℕ). placeOf (read (kindAt k) (lo ∷ hi ∷ []))) [] 256 refl

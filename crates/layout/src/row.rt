@@ -1,12 +1,10 @@
 // The parts of a row that is a number, as bytes.
 ghost use mathlib.Core.Path.{_≡_};
-ghost use mathlib.Core.List.{[], _∷_};
 ghost use Rattle.wording.specs.Names.{instructionOf};
-ghost use Rattle.table.specs.Row.{read};
 ghost use Rattle.packed.specs.Named.{instructionAt};
-ghost use Rattle.packed.specs.Packed.{kindAt, statesFrom};
-ghost use Rattle.layout.specs.Layout.{placeOf, statesOf};
-ghost use Rattle.layout.specs.Row.{fixedKind, kindByte, mostOf, lesserOf, fixedValue, readValue, valueAt};
+ghost use Rattle.packed.specs.Packed.{statesFrom};
+ghost use Rattle.layout.specs.Layout.{tripleOf, statesOf};
+ghost use Rattle.layout.specs.Row.{fixedKind, mostOf, lesserOf, fixedValue, tripleAt};
 use super::operand::byte_of;
 use super::operand::word_of;
 use packed::numbers::relative;
@@ -42,23 +40,6 @@ fn fixed_kind(digit: u8) -> u8
     }
 }
 
-fn kind_byte(k: u8) -> u8
-    ensures { λ b. ⌜ b ≡ kindByte k ⌝ }
-{
-    match k {
-        1 => 1,
-        2 => 2,
-        3 => 4,
-        4 => 5,
-        5 => 3,
-        6 => 12,
-        7 => 1,
-        8 => 6,
-        9 => 6,
-        _ => fixed_kind(k / 16),
-    }
-}
-
 // The largest second digit that names one of its own.
 fn most_of(digit: u8) -> u8
     ensures { λ b. ⌜ b ≡ mostOf digit ⌝ }
@@ -86,37 +67,29 @@ fn fixed_value(k: u8) -> u16
     n
 }
 
-// The value that a kind reads from the bytes behind the code.
-fn read_value(k: u8, lo: u8, hi: u8) -> u16
-    ensures { λ v. ⌜ v ≡ readValue k lo hi ⌝ }
+// Kind, value low and value high.
+fn triple(kind: u8, value: u16) -> [u8; 3]
+    ensures { λ t. ⌜ t ≡ tripleOf kind value ⌝ }
+{
+    [kind, (value % 256) as u8, (value / 256) as u8]
+}
+
+// The kinds that read the bytes behind the code, the word ignored, and those that the code fixes.
+pub(crate) fn place_at(k: u8, lo: u8, hi: u8) -> [u8; 3]
+    ensures { λ t. ⌜ t ≡ tripleAt k lo hi ⌝ }
 {
     match k {
-        1 => lo as u16,
-        2 => word(lo, hi),
-        3 => word(lo, hi),
-        4 => lo as u16,
-        5 => word_of(relative(lo)),
-        7 => hi as u16,
-        8 => byte_of(signed(lo)) as u16,
-        9 => 256 + (byte_of(signed(lo)) as u16),
-        _ => 0,
+        1 => triple(1, lo as u16),
+        2 => triple(2, word(lo, hi)),
+        3 => triple(4, word(lo, hi)),
+        4 => triple(5, lo as u16),
+        5 => triple(3, word_of(relative(lo))),
+        6 => triple(12, 0),
+        7 => triple(1, hi as u16),
+        8 => triple(6, byte_of(signed(lo)) as u16),
+        9 => triple(6, 256 + (byte_of(signed(lo)) as u16)),
+        _ => triple(fixed_kind(k / 16), fixed_value(k)),
     }
-}
-
-fn value_at(k: u8, lo: u8, hi: u8) -> u16
-    ensures { λ v. ⌜ v ≡ valueAt k lo hi ⌝ }
-{
-    if k < 16 {
-        return read_value(k, lo, hi);
-    }
-    fixed_value(k)
-}
-
-pub(crate) fn place_at(k: u8, lo: u8, hi: u8) -> [u8; 3]
-    ensures { λ t. ⌜ t ≡ placeOf (read (kindAt k) (lo ∷ hi ∷ [])) ⌝ }
-{
-    let v = value_at(k, lo, hi);
-    [kind_byte(k), (v % 256) as u8, (v / 256) as u8]
 }
 
 pub(crate) fn states_at(row: u64) -> [u8; 6]
