@@ -167,15 +167,15 @@ mod linked {
 #[cfg(not(linked))]
 mod bridge {
     use crate::outcome::{Call, Lent, Outcome};
+    use crate::piped::Piped;
     use crate::runs::Run;
-    use std::io::{self, BufReader, BufWriter, Read, Write};
-    use std::process::{Child, ChildStdin, ChildStdout, Command, Stdio};
+    use std::io::{self, BufWriter, Write};
+    use std::process::ChildStdin;
     use std::thread;
 
     /// The bridge, with the outcomes of all calls that it was asked for to come from it.
     pub struct Exported {
-        child: Child,
-        outcomes: BufReader<ChildStdout>,
+        bridge: Piped,
     }
 
     impl Exported {
@@ -185,33 +185,20 @@ mod bridge {
         where
             F: FnOnce() -> Run + Send + 'static,
         {
-            let (program, rest) = words
-                .split_first()
-                .ok_or(io::Error::other("no command for the bridge"))?;
-            let mut command = Command::new(program);
-            command
-                .args(rest)
-                .stdin(Stdio::piped())
-                .stdout(Stdio::piped());
-            let mut child = command.spawn()?;
-            let requests = child.stdin.take().expect("piped");
-            let outcomes = child.stdout.take().expect("piped");
+            let (bridge, requests) = Piped::start(words)?;
             thread::spawn(|| ask(requests, calls()));
-            Ok(Exported {
-                child,
-                outcomes: BufReader::with_capacity(1 << 16, outcomes),
-            })
+            Ok(Exported { bridge })
         }
 
         /// The outcome of the next call asked for, which is the one given: number, whether a map was altered, count, bytes
         /// passed and address, low byte first, buffer.
         pub fn call(&mut self, _: &Call) -> io::Result<Outcome> {
-            let [number, altered] = self.next()?;
+            let [number, altered] = self.bridge.read()?;
             let lent = Lent {
-                count: u32::from_le_bytes(self.next()?),
-                passed: u32::from_le_bytes(self.next()?),
-                address: u32::from_le_bytes(self.next()?),
-                buffer: self.next()?,
+                count: u32::from_le_bytes(self.bridge.read()?),
+                passed: u32::from_le_bytes(self.bridge.read()?),
+                address: u32::from_le_bytes(self.bridge.read()?),
+                buffer: self.bridge.read()?,
             };
             Ok(Outcome {
                 number,
@@ -220,19 +207,8 @@ mod bridge {
             })
         }
 
-        fn next<const N: usize>(&mut self) -> io::Result<[u8; N]> {
-            let mut bytes = [0; N];
-            self.outcomes.read_exact(&mut bytes)?;
-            Ok(bytes)
-        }
-
-        /// The bridge has no more to say and ended well.
-        pub fn finish(mut self) -> io::Result<()> {
-            let left = self.outcomes.read(&mut [0])?;
-            match self.child.wait()?.success() && left == 0 {
-                true => Ok(()),
-                false => Err(io::Error::other("the bridge did not end as it should")),
-            }
+        pub fn finish(self) -> io::Result<()> {
+            self.bridge.finish()
         }
     }
 

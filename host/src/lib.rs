@@ -26,6 +26,7 @@ pub mod marking;
 pub mod mixed;
 pub mod outcome;
 pub mod pages;
+pub mod piped;
 pub mod record;
 pub mod replay_rows;
 pub mod row_runs;

@@ -1,0 +1,31 @@
+# Sourced by host/run and host/exhaust, after `rt staticlib exports`: the archive, which is for x86-64, the C programs that the
+# kit links with it, and the Rust programs.
+top=$(cd "$(dirname "$(readlink -f "${BASH_SOURCE[0]}")")/.." && pwd -P)
+PATH=$PATH:${HOME:-}/.cargo/bin
+export CARGO_TARGET_DIR=$top/target/host
+archive=$top/target/staticlib
+machine=$(uname -m)
+if [ "$machine" = x86_64 ]; then
+    export EXPORTS_DIR=$archive
+fi
+
+# link NAME: compiles host/NAME.c and links it with the archive. The words that run it are then in `linked`: on x86-64 the
+# program alone, on another machine the kit's emulator before it.
+link() {
+    local tools chain out=$top/target/$1
+    tools=$(cd "$(dirname "$(rt doc)")/../on/$machine" && pwd -P)
+    chain=$tools/toolchain
+    mkdir -p "$out"
+    "$chain/bin/clang" --target=x86_64-unknown-linux-gnu -O2 -fPIC -ffreestanding -c "$top/host/$1.c" -o "$out/$1.o" || exit 1
+    "$tools/bin/rattle-link" --target x86_64-unknown-linux-gnu --toolchain "$chain" -o "$out/$1" "$out/$1.o" "$archive/libexports.a" || exit 1
+    linked=("$out/$1")
+    if [ "$machine" != x86_64 ]; then
+        linked=("$chain/bin/qemu-x86_64" "$chain/lib/ld-linux-x86-64.so.2" --library-path "$chain/lib" "${linked[@]}")
+    fi
+}
+
+# start NAME WORDS...: builds a Rust program and goes on as it.
+start() {
+    cargo build --release --offline --locked --quiet --manifest-path "$top/host/Cargo.toml" --bin "$1" || exit 1
+    exec "$CARGO_TARGET_DIR/release/$1" "${@:2}"
+}
