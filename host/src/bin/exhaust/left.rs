@@ -1,0 +1,152 @@
+//! What a call leaves in the places lent to it, and what the original has it leave.
+
+use host::answer::{decoded, Refusal};
+use host::function::{Function, TEXT_MAX};
+use host::original::OpCode;
+use host::record::RECORD_SIZE;
+use std::fmt;
+
+/// The bytes that are looked at: the room lent, and some behind it.
+pub const LENT: usize = 56;
+
+/// What stands in every byte before a call; only what is answered may alter it.
+const FILL: u8 = 0xA5;
+
+/// A number that was not written.
+const NONE: u32 = u32::from_le_bytes([FILL; 4]);
+
+/// The number answered, the count, and the buffer with what stands behind the room.
+#[derive(Debug, PartialEq, Eq, Clone, Copy)]
+pub struct Left {
+    pub number: u32,
+    pub count: u32,
+    pub lent: [u8; LENT],
+}
+
+impl Left {
+    /// What the original has a call leave, on the four bytes of a number, the highest first.
+    pub fn by_original(function: Function, input: u32) -> Left {
+        let decoded = decoded(&input.to_be_bytes());
+        match decoded.and_then(|opcode| Left::written(function, opcode)) {
+            Ok(left) => left,
+            Err(refusal) => Left::new(function, refusal as u32, 0, [FILL; LENT]),
+        }
+    }
+
+    /// What the original says of a decoded row, at the front of the buffer.
+    fn written(function: Function, opcode: OpCode) -> Result<Left, Refusal> {
+        let (mut lent, room) = ([FILL; LENT], room(function));
+        let mut rest = &mut lent[..room];
+        let written = function.write(opcode, &mut rest);
+        let count = room - rest.len();
+        match written {
+            Ok(()) => Ok(Left::new(function, 0, count as u32, lent)),
+            Err(_) => Err(Refusal::NoRoom),
+        }
+    }
+
+    /// A record has no count.
+    fn new(function: Function, number: u32, count: u32, lent: [u8; LENT]) -> Left {
+        let count = match function {
+            Function::Record => NONE,
+            Function::Text | Function::FullText => count,
+        };
+        Left {
+            number,
+            count,
+            lent,
+        }
+    }
+
+    /// All of it, as it lies in memory on the archive's side, low byte first.
+    pub fn words(&self) -> impl Iterator<Item = u64> + '_ {
+        let numbers = self.number as u64 | (self.count as u64) << 32;
+        let (lent, _) = self.lent.as_chunks();
+        let lent = lent.iter().map(|word| u64::from_le_bytes(*word));
+        [numbers].into_iter().chain(lent)
+    }
+}
+
+/// What is lent: room for a record, or for the longest text.
+fn room(function: Function) -> usize {
+    match function {
+        Function::Record => RECORD_SIZE,
+        Function::Text | Function::FullText => TEXT_MAX,
+    }
+}
+
+/// The number, and the buffer up to where the fill begins: as bytes, or as text behind its count.
+impl fmt::Display for Left {
+    fn fmt(&self, f: &mut fmt::Formatter) -> fmt::Result {
+        let (number, count) = (self.number, self.count);
+        let last = self.lent.iter().rposition(|byte| *byte != FILL);
+        let lent = &self.lent[..last.map_or(0, |last| last + 1)];
+        match count {
+            NONE => write!(f, "{number}, {lent:02X?}"),
+            _ => write!(f, "{number}, count {count}, \"{}\"", lent.escape_ascii()),
+        }
+    }
+}
+
+#[cfg(test)]
+mod tests {
+    use super::*;
+
+    /// These bytes at the front, then the fill.
+    fn lent(written: &[u8]) -> [u8; LENT] {
+        std::array::from_fn(|place| *written.get(place).unwrap_or(&0xA5))
+    }
+
+    #[test]
+    fn by_hand() {
+        let record = b"\x02\x1C\x03\x82\xFF\0\0\0\0\0\0\x18\x80\x56\x78\x04\x03\x05\0\0\0\x03";
+        let plain = b"JR\t-126 [4, 3, 5, 0, 0, 0]";
+        let full = b"18 80 \t\tJR\t-126 [4, 3, 5, 0, 0, 0]";
+        let expected = [
+            (Function::Record, 0xA5A5_A5A5, &record[..]),
+            (Function::Text, 26, plain),
+            (Function::FullText, 34, full),
+        ];
+        for (function, count, written) in expected {
+            let expected = Left {
+                number: 0,
+                count,
+                lent: lent(written),
+            };
+            let left = Left::by_original(function, 0x1880_5678);
+            assert_eq!(left, expected, "{left}");
+        }
+    }
+
+    /// No text of a decoded row is longer than the room, so one is made longer: it has (IX-128) twice.
+    #[test]
+    fn no_room() {
+        let mut opcode = decoded(&[0xDD, 0xCB, 0x80, 0xC7]).unwrap();
+        assert!(Left::written(Function::FullText, opcode.clone()).is_ok());
+        opcode.op1 = opcode.op2;
+        let refused = Left::written(Function::FullText, opcode);
+        assert_eq!(refused, Err(Refusal::NoRoom));
+    }
+
+    #[test]
+    fn words_are_all_bytes() {
+        let left = Left {
+            number: 0x0302_0100,
+            count: 0x0706_0504,
+            lent: std::array::from_fn(|place| place as u8 + 8),
+        };
+        let bytes = left.words().flat_map(u64::to_le_bytes);
+        assert!(bytes.eq(0..64));
+    }
+
+    #[test]
+    fn shown() {
+        let text = Left::by_original(Function::Text, 0).to_string();
+        assert_eq!(text, r#"0, count 23, "NOP\t [4, 0, 0, 0, 0, 0]""#);
+        let mut record = Left::by_original(Function::Record, 0);
+        let bytes = "01, 23, 00, 00, 00, 00, 00, 00, 00, 00, 00, 00, 00, 00, 00, 04, 00, 00, 00, 00, 00, 01";
+        assert_eq!(record.to_string(), format!("0, [{bytes}]"));
+        record.lent[23] = 0;
+        assert_eq!(record.to_string(), format!("0, [{bytes}, A5, 00]"));
+    }
+}

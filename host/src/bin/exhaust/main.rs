@@ -1,0 +1,74 @@
+//! Holds the archive to the original on all inputs of four bytes, by the hashes of blocks; host/exhaust gives it its words.
+
+mod block;
+mod child;
+mod hash;
+mod kind;
+mod left;
+mod pace;
+mod progress;
+mod run;
+mod search;
+mod tally;
+mod work;
+
+use kind::{kinds, Kind};
+use pace::seconds;
+use run::Run;
+use std::path::Path;
+use std::process::ExitCode;
+use std::time::Instant;
+use std::{env, fs, io};
+use tally::Tally;
+
+/// What is asked for: the folder of the progress files, a line that names the two sides, the kinds, and the command that runs
+/// the archive's side.
+struct Words<'a> {
+    folder: &'a Path,
+    sides: &'a str,
+    kinds: Vec<Kind>,
+    archive: &'a [String],
+}
+
+/// FOLDER SIDES [KIND...] -- COMMAND...
+fn parsed(words: &[String]) -> Option<Words<'_>> {
+    let end = words.iter().rposition(|word| word == "--")?;
+    let [folder, sides, named @ ..] = &words[..end] else {
+        return None;
+    };
+    Some(Words {
+        folder: Path::new(folder),
+        sides,
+        kinds: kinds(named)?,
+        archive: &words[end + 1..],
+    })
+}
+
+/// Compares the kinds one behind the other; whether every block of theirs is equal.
+fn compare(words: &Words) -> io::Result<bool> {
+    let (start, mut all) = (Instant::now(), Tally::default());
+    fs::create_dir_all(words.folder)?;
+    println!("exhaust: {}", words.sides);
+    for kind in &words.kinds {
+        let run = Run::open(*kind, words.archive, words.folder, words.sides)?;
+        all.join(run.compare()?);
+    }
+    println!("exhaust: {}, {}", all.summary(), seconds(start.elapsed()));
+    Ok(all.is_equal(words.kinds.len()))
+}
+
+fn main() -> ExitCode {
+    let words: Vec<String> = env::args().skip(1).collect();
+    let Some(words) = parsed(&words) else {
+        eprintln!("usage: host/exhaust [records|texts|full_texts]...");
+        return ExitCode::from(2);
+    };
+    match compare(&words) {
+        Ok(true) => ExitCode::SUCCESS,
+        Ok(false) => ExitCode::FAILURE,
+        Err(error) => {
+            eprintln!("exhaust: {error}");
+            ExitCode::FAILURE
+        }
+    }
+}
