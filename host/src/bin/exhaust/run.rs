@@ -43,7 +43,7 @@ impl<'a> Run<'a> {
         };
         run.print(&match run.progress.before {
             Before::Nothing => "begins".into(),
-            Before::Unfit => "begins anew: its file is of another archive, or torn".into(),
+            Before::Unfit => "begins anew: its file is torn, or of other sides".into(),
             Before::Fit => format!("goes on: {} blocks were equal before", grouped(earlier)),
         });
         Ok(run)
