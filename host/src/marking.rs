@@ -1,10 +1,11 @@
 //! The map check, read plainly: where each of document 01's rules 5 to 13 holds, and which of them is answered. The decoder
-//! is the original's. It decodes a start again for each rule that asks, so it is no measure of speed.
+//! is the original's; each start is decoded once, before the rules of rows.
 
 use crate::answer::{decoded, Refusal};
 use crate::flow::next_places;
 use crate::listing::{window, ADDRESSES};
 use crate::original::OpCode;
+use std::iter;
 use Refusal::*;
 
 /// The most entries, and the bytes of each.
@@ -47,12 +48,12 @@ impl Map<'_> {
     }
 
     /// 5, 6, 7, 8, 9 in that order, then the lowest address where any of 10 to 13 holds and there the lowest number. For 8
-    /// the lowest such address, for 9 the first such entry in list order.
+    /// the lowest such address, for 9 the first such entry in list order. The starts are decoded when 10 is come to.
     pub fn holding(&self) -> impl Iterator<Item = Refused> + '_ {
         let sizes = self.wrong_sizes();
         let marks = sizes.chain(self.wrong_marks());
         let entries = marks.chain(self.wrong_entries());
-        entries.chain(self.wrong_rows())
+        entries.chain(iter::once_with(|| self.wrong_rows()).flatten())
     }
 
     /// 5 to 7, which have no address.
@@ -84,11 +85,12 @@ impl Map<'_> {
 
     /// 10 to 13, from the lowest address on, and at each from the lowest number on.
     fn wrong_rows(&self) -> impl Iterator<Item = Refused> + '_ {
-        self.addresses().flat_map(|address| {
-            let unfinished = self.unfinished(address).then_some(Unfinished);
-            let clipped = self.clipped(address).then_some(Clipped);
-            let stray = self.stray(address).then_some(Stray);
-            let bad_next = self.bad_next(address).then_some(BadNext);
+        let rows = self.rows();
+        self.addresses().flat_map(move |address| {
+            let unfinished = rows.unfinished(address).then_some(Unfinished);
+            let clipped = rows.clipped(address).then_some(Clipped);
+            let stray = rows.stray(address).then_some(Stray);
+            let bad_next = rows.bad_next(address).then_some(BadNext);
             let holding = [unfinished, clipped, stray, bad_next].into_iter().flatten();
             holding.map(move |refusal| Refused { refusal, address })
         })
@@ -120,36 +122,6 @@ impl Map<'_> {
         !self.is_start(entry)
     }
 
-    /// 10: a start whose window the decoder refuses.
-    fn unfinished(&self, address: u16) -> bool {
-        self.is_start(address) && self.record(address).is_none()
-    }
-
-    /// 11: a later byte of a start's record not marked 2.
-    fn clipped(&self, address: u16) -> bool {
-        self.row(address).is_some_and(|record| {
-            let mut later = (1..record.length as u16).map(|n| address.wrapping_add(n));
-            later.any(|place| self.mark(place) != Some(INSIDE))
-        })
-    }
-
-    /// 12: a byte marked 2 that no start's record covers after its first byte. No record has more than four bytes.
-    fn stray(&self, address: u16) -> bool {
-        let covers = |n: u16| {
-            let row = self.row(address.wrapping_sub(n));
-            row.is_some_and(|record| n < record.length as u16)
-        };
-        self.mark(address) == Some(INSIDE) && ![1, 2, 3].into_iter().any(covers)
-    }
-
-    /// 13: a start with a next place outside the image or not marked 1.
-    fn bad_next(&self, address: u16) -> bool {
-        self.row(address).is_some_and(|record| {
-            let mut next = next_places(address, &record);
-            next.any(|place| !self.is_start(place))
-        })
-    }
-
     /// The addresses of the image, the lowest first.
     fn addresses(&self) -> impl Iterator<Item = u16> {
         let origin = self.origin;
@@ -171,16 +143,62 @@ impl Map<'_> {
         self.mark(address) == Some(START)
     }
 
-    /// The record of a start, where it has one.
-    fn row(&self, address: u16) -> Option<OpCode> {
-        self.is_start(address).then(|| self.record(address))?
+    /// The map with its starts decoded.
+    fn rows(&self) -> Rows<'_> {
+        let places = 0..self.image.len();
+        let records = places.map(|at| match self.marks.get(at) {
+            Some(&START) => decoded(window(self.image, at)).ok(),
+            _ => None,
+        });
+        Rows {
+            map: self,
+            records: records.collect(),
+        }
+    }
+}
+
+/// A map, and for each place of its image the record of a start, where there is one: what the decoder makes of the window
+/// there, the up to four image bytes, which do not wrap.
+struct Rows<'a> {
+    map: &'a Map<'a>,
+    records: Vec<Option<OpCode>>,
+}
+
+impl Rows<'_> {
+    /// 10: a start whose window the decoder refuses.
+    fn unfinished(&self, address: u16) -> bool {
+        self.map.is_start(address) && self.row(address).is_none()
     }
 
-    /// What the decoder makes of the window at an address: the up to four image bytes there, which do not wrap.
-    fn record(&self, address: u16) -> Option<OpCode> {
-        let at = address.checked_sub(self.origin)? as usize;
-        let rest = self.image.get(at..)?;
-        decoded(window(rest, 0)).ok()
+    /// 11: a later byte of a start's record not marked 2.
+    fn clipped(&self, address: u16) -> bool {
+        self.row(address).is_some_and(|record| {
+            let mut later = (1..record.length as u16).map(|n| address.wrapping_add(n));
+            later.any(|place| self.map.mark(place) != Some(INSIDE))
+        })
+    }
+
+    /// 12: a byte marked 2 that no start's record covers after its first byte. No record has more than four bytes.
+    fn stray(&self, address: u16) -> bool {
+        let covers = |n: u16| {
+            let row = self.row(address.wrapping_sub(n));
+            row.is_some_and(|record| n < record.length as u16)
+        };
+        self.map.mark(address) == Some(INSIDE) && ![1, 2, 3].into_iter().any(covers)
+    }
+
+    /// 13: a start with a next place outside the image or not marked 1.
+    fn bad_next(&self, address: u16) -> bool {
+        self.row(address).is_some_and(|record| {
+            let mut next = next_places(address, record);
+            next.any(|place| !self.map.is_start(place))
+        })
+    }
+
+    /// The record of a start, where it has one.
+    fn row(&self, address: u16) -> Option<&OpCode> {
+        let at = address.checked_sub(self.map.origin)? as usize;
+        self.records.get(at)?.as_ref()
     }
 }
 
