@@ -33,6 +33,19 @@ pub fn page(prefix: &[u8], mixed: &mut Mixed) -> Vec<u8> {
     codes.collect::<Vec<_>>().concat()
 }
 
+/// So many bytes of code: every code of all pages, over and over. The last row may be cut off.
+pub fn all_pages(count: usize, mixed: &mut Mixed) -> Vec<u8> {
+    let mut code = vec![];
+    for prefix in PAGES.iter().chain(&ED_BEHIND).cycle() {
+        if code.len() >= count {
+            break;
+        }
+        code.extend(page(prefix, mixed));
+    }
+    code.truncate(count);
+    code
+}
+
 /// So many bytes of code: of the pages in turn a row of two bytes or more, now and then four mixed bytes in its place. The
 /// last row may be cut off.
 pub fn mixed_code(count: usize, mixed: &mut Mixed) -> Vec<u8> {
@@ -96,6 +109,18 @@ mod tests {
                 at += piece.len();
             }
         }
+    }
+
+    /// So many bytes are the pages more than once.
+    #[test]
+    fn all_pages_one_behind_another() {
+        let code = all_pages(20_000, &mut Mixed::new(0x5A80_0003));
+        assert_eq!(code.len(), 20_000);
+        let mut mixed = Mixed::new(0x5A80_0003);
+        let pages = PAGES.iter().chain(&ED_BEHIND);
+        let once: Vec<u8> = pages.flat_map(|prefix| page(prefix, &mut mixed)).collect();
+        assert_eq!(code[..once.len()], once);
+        assert!(code[once.len()..].starts_with(&[0x00, 0x01]));
     }
 
     #[test]

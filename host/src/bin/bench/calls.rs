@@ -1,67 +1,56 @@
 //! The calls of the functions of a row's bytes.
 
-use crate::rounds::times;
-use host::answer::LARGEST_INPUT;
+use crate::inputs::{Input, Inputs};
+use crate::rounds::{take, times};
+use crate::table::Table;
 use host::exported::{z80_full_text, z80_record, z80_text};
 use host::function::{Function, TEXT_MAX};
-use host::mixed::Mixed;
 use host::original::disas;
-use host::pages::{row, ED_BEHIND, PAGES};
-use host::record::RECORD_SIZE;
+use host::record::{record, RECORD_SIZE};
 use std::hint::black_box;
-
-const RANDOM_INPUTS: usize = 65_536;
-
-type Input = [u8; LARGEST_INPUT];
 
 /// A function, its work through the archive, and the same work by the original.
 struct Pair {
-    name: &'static str,
+    work: &'static str,
     function: Function,
-    here: fn(&Input),
-    original: fn(&Input),
+    ours: fn(&Input),
+    theirs: fn(&Input),
 }
 
-const PAIRS: [Pair; 3] = [
+const PAIRS: [Pair; 4] = [
     Pair {
-        name: "decode",
+        work: "decode",
         function: Function::Record,
-        here: |ins| {
-            black_box(record(ins));
-        },
-        original: |ins| {
-            black_box(disas(ins));
-        },
+        ours: |ins| take(our_record(ins)),
+        theirs: |ins| take(disas(ins)),
     },
     Pair {
-        name: "plain text",
+        work: "decode, laid out",
+        function: Function::Record,
+        ours: |ins| take(our_record(ins)),
+        theirs: |ins| take(record(disas(ins).unwrap())),
+    },
+    Pair {
+        work: "plain text",
         function: Function::Text,
-        here: |ins| {
-            black_box(text(ins, z80_text));
-        },
-        original: |ins| {
-            black_box(format!("{}", disas(ins).unwrap()));
-        },
+        ours: |ins| take(our_text(ins, z80_text)),
+        theirs: |ins| take(format!("{}", disas(ins).unwrap())),
     },
     Pair {
-        name: "full text",
+        work: "full text",
         function: Function::FullText,
-        here: |ins| {
-            black_box(text(ins, z80_full_text));
-        },
-        original: |ins| {
-            black_box(format!("{:?}", disas(ins).unwrap()));
-        },
+        ours: |ins| take(our_text(ins, z80_full_text)),
+        theirs: |ins| take(format!("{:?}", disas(ins).unwrap())),
     },
 ];
 
-fn record(ins: &Input) -> [u8; RECORD_SIZE] {
+fn our_record(ins: &Input) -> [u8; RECORD_SIZE] {
     let mut out = [0; RECORD_SIZE];
     z80_record(ins, &mut out);
     out
 }
 
-fn text(ins: &Input, make: fn(&[u8], &mut [u8], &mut u32) -> u8) -> ([u8; TEXT_MAX], u32) {
+fn our_text(ins: &Input, make: fn(&[u8], &mut [u8], &mut u32) -> u8) -> ([u8; TEXT_MAX], u32) {
     let (mut out, mut count) = ([0; TEXT_MAX], 0);
     make(ins, &mut out, &mut count);
     (out, count)
@@ -70,59 +59,37 @@ fn text(ins: &Input, make: fn(&[u8], &mut [u8], &mut u32) -> u8) -> ([u8; TEXT_M
 /// What the archive writes, to be held to the original.
 fn written(function: Function, ins: &Input) -> Vec<u8> {
     let (out, count) = match function {
-        Function::Record => return record(ins).to_vec(),
-        Function::Text => text(ins, z80_text),
-        Function::FullText => text(ins, z80_full_text),
+        Function::Record => return our_record(ins).to_vec(),
+        Function::Text => our_text(ins, z80_text),
+        Function::FullText => our_text(ins, z80_full_text),
     };
     out[..count as usize].to_vec()
 }
 
-fn random() -> Vec<Input> {
-    let mut mixed = Mixed::new(0x5A80_6553);
-    let mut input = || std::array::from_fn(|_| mixed.byte());
-    (0..RANDOM_INPUTS).map(|_| input()).collect()
-}
-
-/// Every code of every page, mixed bytes around it.
-fn codes() -> Vec<Input> {
-    let mut mixed = Mixed::new(0x5A80_2304);
-    let mut inputs = vec![];
-    for prefix in PAGES.iter().chain(&ED_BEHIND) {
-        for code in 0..=0xFF {
-            let mut input = row(prefix, code, mixed.byte());
-            input.resize_with(LARGEST_INPUT, || mixed.byte());
-            inputs.push(input.try_into().unwrap());
-        }
-    }
-    inputs
-}
-
-/// Does some work on all inputs.
-fn on_all(inputs: &[Input], work: fn(&Input)) {
-    for ins in inputs {
+/// Does some work on all rows.
+fn on_all(rows: &[Input], work: fn(&Input)) {
+    for ins in rows {
         work(black_box(ins));
     }
 }
 
-fn time(pair: &Pair, inputs: &[Input]) {
-    for ins in inputs {
-        let said = pair.function.said(ins);
-        assert_eq!(Ok(written(pair.function, ins)), said, "{ins:02X?}");
-    }
-    let times = times(
-        inputs.len(),
-        || on_all(inputs, pair.here),
-        "original",
-        || on_all(inputs, pair.original),
+pub fn time(inputs: &Inputs, table: &mut Table) {
+    let rows = &inputs.rows;
+    println!(
+        "bench: {}, {} inputs of four bytes",
+        inputs.name,
+        rows.len()
     );
-    times.print(pair.name);
-}
-
-pub fn time_all() {
-    for (name, inputs) in [("random", random()), ("every code", codes())] {
-        println!("bench: {name}, {} inputs of four bytes", inputs.len());
-        for pair in &PAIRS {
-            time(pair, &inputs);
+    for pair in &PAIRS {
+        for ins in rows {
+            let said = pair.function.said(ins);
+            assert_eq!(Ok(written(pair.function, ins)), said, "{ins:02X?}");
         }
+        let times = times(
+            rows.len(),
+            || on_all(rows, pair.ours),
+            || on_all(rows, pair.theirs),
+        );
+        table.add(inputs.name, pair.work, &times);
     }
 }

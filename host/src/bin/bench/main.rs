@@ -3,11 +3,15 @@
 #[cfg(linked)]
 mod calls;
 #[cfg(linked)]
+mod inputs;
+#[cfg(linked)]
 mod listing;
 #[cfg(linked)]
 mod maps;
 #[cfg(linked)]
 mod rounds;
+#[cfg(linked)]
+mod table;
 
 #[cfg(not(linked))]
 fn main() -> std::process::ExitCode {
@@ -17,7 +21,11 @@ fn main() -> std::process::ExitCode {
 
 #[cfg(linked)]
 fn main() {
-    calls::time_all();
-    listing::time_all();
-    maps::time_all();
+    let mut table = table::Table::default();
+    for inputs in &inputs::all() {
+        calls::time(inputs, &mut table);
+        listing::time(inputs, &mut table);
+    }
+    maps::time_all(&mut table);
+    table.print();
 }

@@ -1,50 +1,39 @@
-//! The check of a whole map that passes. The other side is the plain reading, which decodes a start for every rule that asks,
-//! and so does several times the work.
+//! The check of a whole map that passes. The other side is the plain reading, over the original's decoder.
 
-use crate::rounds::times;
+use crate::inputs::mixed_image;
+use crate::rounds::{take, times};
+use crate::table::Table;
 use host::exported::z80_map_check;
-use host::images::mixed_code;
 use host::maps::full::full_map;
 use host::maps::grown::overgrown;
 use host::maps::Drawn;
 use host::marking::{Map, START};
-use host::mixed::Mixed;
 use std::hint::black_box;
 
-/// The size of the smaller map, which has its first address for an entry.
-const SMALLER: usize = 32_768;
-
 /// Number and address.
-fn here(map: &Map) -> (u8, u32) {
+fn ours(map: &Map) -> (u8, u32) {
     let mut address = 0;
     let number = z80_map_check(map, &mut address);
     (number, address)
 }
 
-fn time(name: &str, drawn: &Drawn) {
+fn time(name: &str, drawn: &Drawn, table: &mut Table) {
     let map = drawn.map();
     assert_eq!(map.judged(), Ok(()), "{name}");
-    assert_eq!(here(&map), (0, 0), "{name}");
-    let bytes = map.image.len();
+    assert_eq!(ours(&map), (0, 0), "{name}");
     let starts = map.marks.iter().filter(|mark| **mark == START).count();
-    println!("bench: map check of {name}, {bytes} bytes, {starts} starts");
     let times = times(
-        bytes,
-        || {
-            black_box(here(black_box(&map)));
-        },
-        "plain reading",
-        || {
-            let _ = black_box(black_box(&map).judged());
-        },
+        starts,
+        || take(ours(black_box(&map))),
+        || take(black_box(&map).judged()),
     );
-    times.print("a byte");
-    times.print_whole(bytes);
+    let (bytes, whole) = (map.image.len(), times.whole(starts));
+    println!("bench: {name}, {bytes} bytes, {starts} starts: {whole}");
+    table.add(name, "map check, a start", &times);
 }
 
-pub fn time_all() {
-    let mut mixed = Mixed::new(0x5A80_3276);
-    time("code of every kind", &full_map(0x5A80_6536));
-    let code = mixed_code(SMALLER, &mut mixed);
-    time("mixed code", &overgrown(code, 0, &[0]));
+/// A map of all addresses, and one of the mixed code, which has its first address for an entry.
+pub fn time_all(table: &mut Table) {
+    time("64 KiB map", &full_map(0x5A80_6536), table);
+    time("32 KiB map", &overgrown(mixed_image(), 0, &[0]), table);
 }

@@ -1,5 +1,6 @@
 //! How two sides are timed.
 
+use std::hint::black_box;
 use std::time::Instant;
 
 /// The fastest round counts, and the two sides take turns at the rounds.
@@ -8,25 +9,28 @@ const ROUNDS: usize = 60;
 /// A round has at least this many calls, so that the clock's own steps do not show.
 const CALLS: usize = 65_536;
 
-/// Nanoseconds a call here and on the other side, which has a name.
+/// Nanoseconds a call on both sides.
 pub struct Times {
-    here: f64,
-    other: f64,
-    name: &'static str,
+    pub ours: f64,
+    pub theirs: f64,
 }
 
 /// Times two sides of which each makes so many calls.
-pub fn times(calls: usize, here: impl Fn(), name: &'static str, other: impl Fn()) -> Times {
+pub fn times(calls: usize, ours: impl Fn(), theirs: impl Fn()) -> Times {
     let mut times = Times {
-        here: f64::INFINITY,
-        other: f64::INFINITY,
-        name,
+        ours: f64::INFINITY,
+        theirs: f64::INFINITY,
     };
     for _ in 0..ROUNDS {
-        times.here = times.here.min(round(calls, &here));
-        times.other = times.other.min(round(calls, &other));
+        times.ours = times.ours.min(round(calls, &ours));
+        times.theirs = times.theirs.min(round(calls, &theirs));
     }
     times
+}
+
+/// Takes a result, so that the work for it is done.
+pub fn take<T>(result: T) {
+    drop(black_box(result));
 }
 
 /// Nanoseconds a call, in a round of all of them, as often as it takes.
@@ -40,20 +44,10 @@ fn round(calls: usize, make: impl Fn()) -> f64 {
 }
 
 impl Times {
-    /// The time of a call.
-    pub fn print(&self, call: &str) {
-        let Times { here, other, name } = self;
-        let ratio = here / other;
-        println!("bench:   {call:<10} {here:7.1} ns here, {other:7.1} ns {name}, ratio {ratio:.2}");
-    }
-
-    /// The time of so many calls together.
-    pub fn print_whole(&self, calls: usize) {
-        let whole = |nanoseconds: f64| nanoseconds * calls as f64 / 1000.0;
-        let (here, other) = (whole(self.here), whole(self.other));
-        println!(
-            "bench:   whole      {here:7.0} us here, {other:7.0} us {}",
-            self.name
-        );
+    /// The times of so many calls together.
+    pub fn whole(&self, calls: usize) -> String {
+        let microseconds = |nanoseconds: f64| nanoseconds * calls as f64 / 1000.0;
+        let (ours, theirs) = (microseconds(self.ours), microseconds(self.theirs));
+        format!("{ours:.0} us ours, {theirs:.0} us theirs")
     }
 }
