@@ -9,7 +9,7 @@ use opcode::timing::Timing;
 pub fn tstates_insert(rec: &mut OpCode, pos: usize, more: Timing) -> bool
     ensures { λ ok. ⌜ Leaves (λ r. insertOf r pos more) (now (rec .entry)) ok (now (rec .exit)) ⌝ }
 {
-    let edited = OpCode::tstates_insert(*rec, pos, more);
+    let edited = timing::tstates_insert(*rec, pos, more);
     *rec = edited.rec;
     edited.ok
 }
@@ -18,7 +18,7 @@ pub fn tstates_insert(rec: &mut OpCode, pos: usize, more: Timing) -> bool
 pub fn tstates_extend(rec: &mut OpCode, more: Timing) -> bool
     ensures { λ ok. ⌜ Leaves (λ r. extendOf r more) (now (rec .entry)) ok (now (rec .exit)) ⌝ }
 {
-    let edited = OpCode::tstates_extend(*rec, more);
+    let edited = timing::tstates_extend(*rec, more);
     *rec = edited.rec;
     edited.ok
 }
@@ -27,7 +27,7 @@ pub fn tstates_extend(rec: &mut OpCode, more: Timing) -> bool
 pub fn tstates_push(rec: &mut OpCode, t: TStates) -> bool
     ensures { λ ok. ⌜ Leaves (λ r. pushOf r t) (now (rec .entry)) ok (now (rec .exit)) ⌝ }
 {
-    let edited = OpCode::tstates_push(*rec, t);
+    let edited = timing::tstates_push(*rec, t);
     *rec = edited.rec;
     edited.ok
 }
@@ -36,7 +36,7 @@ pub fn tstates_push(rec: &mut OpCode, t: TStates) -> bool
 pub fn tstates_remove(rec: &mut OpCode, pos: usize) -> bool
     ensures { λ ok. ⌜ Leaves (λ r. removeOf r pos) (now (rec .entry)) ok (now (rec .exit)) ⌝ }
 {
-    let edited = OpCode::tstates_remove(*rec, pos);
+    let edited = timing::tstates_remove(*rec, pos);
     *rec = edited.rec;
     edited.ok
 }

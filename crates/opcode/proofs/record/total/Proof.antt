@@ -1,6 +1,6 @@
 -- `total` meets its contract: six places of at most 255 fit, and their sum is that of the list. Assumes nothing.
 use borrow.Author.Needs.{needs}
-use Rattle.opcode.proofs.Laws.{sum-six}
+use Rattle.opcode.proofs.Sum.{sum-six}
 use Rattle.opcode.proofs.record.total.Statement.{statement}
 use Rattle.opcode.proofs.record.total.Tie as tie
 
