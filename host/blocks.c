@@ -58,9 +58,9 @@ static u64 step(u64 state, u64 word) {
     return (state << 31 | state >> 33) * 0xC2B2AE3D27D4EB4F;
 }
 
-// One call, with everything that it may leave filled before it.
+// One call, with everything that it may leave filled before it; the bytes of an input are those of src/bin/exhaust/block.rs.
 static void call(u32 function, u32 input, union left *left) {
-    u8 ins[INPUT] = {input >> 24, input >> 16, input >> 8, input};
+    u8 ins[INPUT] = {input >> 16, input >> 8, input, (input >> 24) + (input >> 16) + (input >> 8) + input};
     for (usize i = 0; i < WORDS; i++) left->words[i] = FILL;
     switch (function) {
     case RECORD: left->number = z80_record(ins, INPUT, left->lent, RECORD_ROOM); return;

@@ -17,12 +17,12 @@ const EXAMPLE: [u8; 7] = [0x21, 0x34, 0x12, 0x3E, 0x05, 0xDD, 0x23];
 pub fn images() -> impl Iterator<Item = (&'static str, Vec<u8>)> {
     let images = [
         ("list", EXAMPLE.to_vec()),
-        ("list_empty", vec![]),
-        ("list_one_byte", vec![0xDD]),
-        ("list_full", code(LISTED)),
-        ("list_over", code(LISTED + 1)),
-        ("list_pages", pages()),
-        ("list_cut", cut()),
+        ("list/runs/empty", vec![]),
+        ("list/runs/one_byte", vec![0xDD]),
+        ("list/runs/full", code(LISTED)),
+        ("list/runs/over", code(LISTED + 1)),
+        ("list/runs/pages", pages()),
+        ("list/runs/cut", cut()),
     ];
     images.into_iter()
 }
@@ -101,31 +101,31 @@ mod tests {
     fn small_ones() {
         let (_, printed) = stored("list");
         assert_eq!(printed.iter().filter(|byte| **byte == b'\n').count(), 4);
-        assert_eq!(stored("list_empty"), (vec![], vec![]));
+        assert_eq!(stored("list/runs/empty"), (vec![], vec![]));
         let one = (vec![0xDD], b"0000 DD \t\t?\n".to_vec());
-        assert_eq!(stored("list_one_byte"), one);
+        assert_eq!(stored("list/runs/one_byte"), one);
     }
 
     /// One byte more, and none of it is listed.
     #[test]
     fn sizes() {
-        let (full, printed) = stored("list_full");
+        let (full, printed) = stored("list/runs/full");
         assert_eq!(full.len(), 32_768);
         assert!((400_000..700_000).contains(&printed.len()));
-        let (over, message) = stored("list_over");
+        let (over, message) = stored("list/runs/over");
         assert_eq!((over.len(), &over[..32_768]), (32_769, &full[..]));
         assert_eq!(message, b"image too long\n");
     }
 
     #[test]
     fn no_code_is_short() {
-        let (_, printed) = stored("list_pages");
+        let (_, printed) = stored("list/runs/pages");
         assert!(!printed.contains(&b'?'));
     }
 
     #[test]
     fn four_endings() {
-        let (_, printed) = stored("list_cut");
+        let (_, printed) = stored("list/runs/cut");
         let text = String::from_utf8(printed).unwrap();
         let endings: Vec<&str> = text.lines().rev().take(4).map(|line| &line[5..]).collect();
         assert_eq!(endings[..3], ["CB \t\t?", "ED \t\t?", "FD \t\t?"]);

@@ -46,15 +46,29 @@ mod tests {
     use super::*;
     use std::collections::BTreeSet;
     use std::fs;
+    use std::path::Path;
+
+    /// The folders below `from` that hold a run, by their path from `top` on.
+    fn with_run(top: &Path, from: &Path) -> BTreeSet<String> {
+        let entries = fs::read_dir(from)
+            .unwrap()
+            .map(|entry| entry.unwrap().path());
+        let mut found = BTreeSet::new();
+        for folder in entries.filter(|path| path.is_dir()) {
+            if folder.join("stdout").exists() {
+                let name = folder.strip_prefix(top).unwrap();
+                found.insert(name.to_str().unwrap().to_owned());
+            }
+            found.extend(with_run(top, &folder));
+        }
+        found
+    }
 
     /// So that no stored file goes unchecked.
     #[test]
     fn every_folder_that_has_a_run() {
-        let crates = concat!(env!("CARGO_MANIFEST_DIR"), "/../crates");
-        let entries = fs::read_dir(crates).unwrap().map(Result::unwrap);
-        let with_run = entries.filter(|entry| entry.path().join("stdout").exists());
-        let found: BTreeSet<_> = with_run.map(|entry| entry.file_name()).collect();
-        let named: BTreeSet<_> = stored().iter().map(|run| run.folder.into()).collect();
-        assert_eq!(found, named);
+        let crates = Path::new(concat!(env!("CARGO_MANIFEST_DIR"), "/../crates"));
+        let named: BTreeSet<_> = stored().iter().map(|run| run.folder.to_owned()).collect();
+        assert_eq!(with_run(crates, crates), named);
     }
 }

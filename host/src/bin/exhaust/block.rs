@@ -1,4 +1,5 @@
-//! Blocks of inputs: all four bytes that begin with the same two.
+//! Inputs by their number, and blocks of them. A number is a pass and the first three bytes: each pass has all 2^24 choices of
+//! these, the fourth byte running through all values as they go on, and all 256 passes together have every input once.
 
 use crate::hash::hash;
 use crate::left::Left;
@@ -8,9 +9,16 @@ use host::function::Function;
 pub const BLOCKS: usize = 1 << 16;
 pub const INPUTS: usize = 1 << 16;
 
-/// The blocks in the order in which they are compared: mixed, so that the pages take turns and an early estimate is fair.
-pub fn mixed_order() -> impl Iterator<Item = u16> {
-    (0..=u16::MAX).map(|k| k.wrapping_mul(0x9E37))
+/// The blocks in the order in which they are compared: pass by pass.
+pub fn order() -> impl Iterator<Item = u16> {
+    0..=u16::MAX
+}
+
+/// The four bytes of an input.
+pub fn bytes(input: u32) -> [u8; 4] {
+    let [pass, a, b, c] = input.to_be_bytes();
+    let fourth = pass.wrapping_add(a).wrapping_add(b).wrapping_add(c);
+    [a, b, c, fourth]
 }
 
 /// The first input of a block.
@@ -31,12 +39,17 @@ pub fn by_original(function: Function, block: u16) -> u64 {
 #[cfg(test)]
 mod tests {
     use super::*;
+    use std::collections::BTreeSet;
 
+    /// Behind three bytes each of the 256 passes has another fourth, and in a pass it changes with each of the three.
     #[test]
-    fn every_block_once() {
-        let mut order: Vec<u16> = mixed_order().collect();
-        order.sort();
-        assert!(order.into_iter().eq(0..=u16::MAX));
+    fn every_fourth_byte() {
+        for three in [0x00_00_00, 0xDD_36_80, 0xFF_FF_FF] {
+            let fourths: BTreeSet<u8> =
+                (0..=255).map(|pass| bytes(pass << 24 | three)[3]).collect();
+            assert_eq!(fourths.len(), 256);
+        }
+        assert_eq!(bytes(0x01_DD_CB_05), [0xDD, 0xCB, 0x05, 0xAE]);
     }
 
     /// The blocks' inputs, one block behind the other, are all inputs.

@@ -1,5 +1,6 @@
 //! What a call leaves in the places lent to it, and what the original has it leave.
 
+use crate::block::bytes;
 use host::answer::{decoded, Refusal};
 use host::function::{Function, TEXT_MAX};
 use host::original::OpCode;
@@ -26,7 +27,7 @@ pub struct Left {
 impl Left {
     /// What the original has a call leave, on the four bytes of a number, the highest first.
     pub fn by_original(function: Function, input: u32) -> Left {
-        let decoded = decoded(&input.to_be_bytes());
+        let decoded = decoded(&bytes(input));
         match decoded.and_then(|opcode| Left::written(function, opcode)) {
             Ok(left) => left,
             Err(refusal) => Left::new(function, refusal as u32, 0, [FILL; LENT]),
@@ -113,7 +114,7 @@ mod tests {
                 count,
                 lent: lent(written),
             };
-            let left = Left::by_original(function, 0x1880_5678);
+            let left = Left::by_original(function, 0x8A18_8056);
             assert_eq!(left, expected, "{left}");
         }
     }

@@ -1,6 +1,6 @@
 //! The blocks found equal, kept in a file, so that a run that was stopped goes on.
 
-use crate::block::{mixed_order, BLOCKS};
+use crate::block::{order, BLOCKS};
 use std::fs::{self, File};
 use std::io;
 use std::os::unix::fs::FileExt;
@@ -49,7 +49,7 @@ impl Progress {
                 (_, None) => Before::Unfit,
                 _ => Before::Fit,
             },
-            open: open.unwrap_or_else(|| mixed_order().collect()),
+            open: open.unwrap_or_else(|| order().collect()),
         })
     }
 
@@ -64,7 +64,7 @@ fn open(stored: &[u8], head: &[u8]) -> Option<Vec<u16>> {
     let marks = stored.strip_prefix(head)?;
     let known = marks.iter().all(|mark| [OPEN, EQUAL].contains(mark));
     let is_open = |block: &u16| marks[*block as usize] == OPEN;
-    (known && marks.len() == BLOCKS).then(|| mixed_order().filter(is_open).collect())
+    (known && marks.len() == BLOCKS).then(|| order().filter(is_open).collect())
 }
 
 /// A file with all blocks open, in one step: written beside its place and then moved there.
@@ -121,7 +121,7 @@ mod tests {
     fn a_new_file_has_all_blocks_open() {
         let progress = Scratch::new("fresh").open("sides");
         assert_eq!(progress.before, Before::Nothing);
-        assert!(progress.open.into_iter().eq(mixed_order()));
+        assert!(progress.open.into_iter().eq(order()));
     }
 
     #[test]
@@ -132,14 +132,14 @@ mod tests {
         scratch.mark("sides", &equal[2..]);
         let progress = scratch.open("sides");
         assert_eq!(progress.before, Before::Fit);
-        let expected = mixed_order().filter(|block| !equal.contains(block));
+        let expected = order().filter(|block| !equal.contains(block));
         assert!(progress.open.into_iter().eq(expected));
     }
 
     #[test]
     fn a_run_that_is_done_has_none_open() {
         let scratch = Scratch::new("done");
-        scratch.mark("sides", &mixed_order().collect::<Vec<_>>());
+        scratch.mark("sides", &order().collect::<Vec<_>>());
         let progress = scratch.open("sides");
         assert_eq!((progress.before, progress.open), (Before::Fit, vec![]));
     }

@@ -1,6 +1,6 @@
 //! Where in a block the two sides differ.
 
-use crate::block::{inputs, INPUTS};
+use crate::block::{bytes, inputs, INPUTS};
 use crate::child::Archive;
 use crate::left::Left;
 use crate::tally::grouped;
@@ -50,7 +50,7 @@ fn difference(
 
 impl fmt::Display for Difference {
     fn fmt(&self, f: &mut fmt::Formatter) -> fmt::Result {
-        let first = self.first.to_be_bytes();
+        let first = bytes(self.first);
         let (original, here) = (self.original, self.here);
         let [differing, of] = [self.differing, INPUTS].map(grouped);
         write!(
@@ -104,7 +104,7 @@ mod tests {
         assert_eq!((several.first, several.differing), (0xDD36_0101, 3));
         let shown = several.to_string();
         assert!(shown
-            .starts_with("3 of 65,536 inputs differ, the first [DD, 36, 01, 01]\n  original 0, "));
+            .starts_with("3 of 65,536 inputs differ, the first [36, 01, 01, 15]\n  original 0, "));
     }
 
     /// A block in which a single call differs has another hash.

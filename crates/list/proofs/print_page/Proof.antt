@@ -3,8 +3,8 @@ use native.Mathlib.Omega.{arith}
 use denote.Ref.{now}
 use Rattle.listing.proofs.Page.{rows-count, rows-passed}
 use borrow.Author.Needs.{needs}
-use Rattle.lister.proofs.print_page.Statement.{statement}
-use Rattle.lister.proofs.print_page.Tie as tie
+use Rattle.list.proofs.print_page.Statement.{statement}
+use Rattle.list.proofs.print_page.Tie as tie
 
 part-is-written-end : tie.Need-part-is-written-end
 part-is-written-end c =

@@ -4,8 +4,8 @@ use Prim.Native.Nat.{_-_, _≤_}
 use native.Mathlib.Omega.{arith}
 use lib.ListN.{length}
 use borrow.Author.Needs.{needs}
-use Rattle.lister.proofs.print.Statement.{statement}
-use Rattle.lister.proofs.print.Tie as tie
+use Rattle.list.proofs.print.Statement.{statement}
+use Rattle.list.proofs.print.Tie as tie
 
 abbrev Inv-loop : tie.InvT-loop
 Inv-loop image page₀ place₀ page place = (65536 ≡ length page) × (place ≤ length image)

@@ -4,8 +4,8 @@ use Prim.Native.Nat.{_+_, _-_, _≤_}
 use native.Mathlib.Omega.{arith}
 use lib.ListN.{length}
 use borrow.Author.Needs.{needs}
-use Rattle.lister.proofs.read_image.Statement.{statement}
-use Rattle.lister.proofs.read_image.Tie as tie
+use Rattle.list.proofs.read_image.Statement.{statement}
+use Rattle.list.proofs.read_image.Tie as tie
 
 abbrev Inv-loop : tie.InvT-loop
 Inv-loop image₀ done₀ image done = (length image ≡ length image₀) × (done ≤ length image₀)

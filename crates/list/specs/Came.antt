@@ -1,6 +1,6 @@
 -- How many bytes reading brought. Definitions only.
 use Prim.Native.Nat.{ℕ}
-use Rattle.lister.specs.declared.Came.{Came}
+use Rattle.list.specs.declared.Came.{Came}
 
 abbrev pub bytesOf : Came → ℕ
 bytesOf (Came.Bytes n) = n

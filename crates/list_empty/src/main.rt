@@ -1,4 +1,0 @@
-// The listing program, run on an empty image: it prints nothing.
-fn main() {
-    lister::run();
-}

@@ -1,4 +1,0 @@
-// The listing program, run on one byte: a Short row.
-fn main() {
-    lister::run();
-}
