@@ -7,7 +7,7 @@ ghost use Rattle.flow.specs.Flow.{lookOf};
 use marking::Checked;
 use rom::map_check;
 
-// The paper's number of an answer.
+// Document 01's number of an answer.
 fn number(checked: Checked) -> u8
     ensures { λ n. ⌜ n ≡ numberOf checked ⌝ }
 {

@@ -6,7 +6,7 @@ use disas::find;
 use layout::layout_row;
 use table::Answer;
 
-// The paper's number of an answer.
+// Document 01's number of an answer.
 fn number(answer: Answer) -> u8
     ensures { λ n. ⌜ n ≡ numberOf answer ⌝ }
 {

@@ -5,7 +5,7 @@ ghost use Rattle.listing.specs.Answers.{numberOf, countOf, passedOver, rowAnswe
 use listing::Listed;
 use rom::row;
 
-// The paper's number of an answer.
+// Document 01's number of an answer.
 fn number(listed: Listed) -> u8
     ensures { λ n. ⌜ n ≡ numberOf listed ⌝ }
 {

@@ -6,7 +6,7 @@ ghost use Rattle.wording.specs.Text.{plainText, fullText};
 ghost use Rattle.wording.specs.Answers.{numberOf, countOf, textAnswer, textBytes};
 use wording::Written;
 
-// The paper's number of an answer.
+// Document 01's number of an answer.
 fn number(written: Written) -> u8
     ensures { λ n. ⌜ n ≡ numberOf written ⌝ }
 {

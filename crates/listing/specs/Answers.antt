@@ -8,7 +8,7 @@ use Rattle.listing.specs.declared.Listed.{Listed}
 use Rattle.image.specs.Places.{wrongSize, outside, windowAt}
 use Rattle.listing.specs.Rows.{lineOf, passedOf}
 
--- the paper's number of each answer
+-- document 01's number of each answer
 abbrev pub numberOf : Listed → ℕ
 numberOf (Listed.Done n p) = 0
 numberOf Listed.ImageSize = 5

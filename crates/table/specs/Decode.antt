@@ -16,7 +16,7 @@ use Rattle.table.specs.Cb.{cb}
 use Rattle.table.specs.Ed.{ed}
 use Rattle.table.specs.Prefix.{behindRow}
 
--- the paper's number of each answer
+-- document 01's number of each answer
 abbrev pub numberOf : Answer → ℕ
 numberOf Answer.Done = 0
 numberOf Answer.Nothing = 1

@@ -29,6 +29,7 @@ use Rattle.wording.specs.declared.Written.{Written}
 use Rattle.wording.specs.Ascii.{ascii}
 use Rattle.wording.specs.Digits.{hex8, hex16, decimal, digitAt, signed}
 use Rattle.wording.specs.Names.{names, nameOf, reg8Names, reg8Text, reg16Names, reg16Text, conditionNames, conditionText}
+use Rattle.wording.specs.Sizes.{textMost}
 use Rattle.wording.specs.Text.{placeText, each, byteText, plainText, fullText}
 use Rattle.wording.specs.Answers.{countOf, answered, textAnswer}
 
@@ -90,9 +91,9 @@ row-most : (x : Row) (s d : List ℕ) → AllBytes s → length d ≡ 4 → leng
 row-most gap s d bytes size = made-most Instruction.NOP none none none 1 (t1 4) s d bytes size
 row-most (row ins x y z n t) s d bytes size = made-most ins x y z n t s d bytes size
 
--- the test: at most 52
+-- the test
 abbrev fits : Row → Bool
-fits x = leb (length (fullText (recordOf x lowest zeros))) 52
+fits x = leb (length (fullText (recordOf x lowest zeros))) textMost
 
 all-fit : Everywhere fits
 unfolding plain cb ed fullText plainText hex8 hex16 decimal digitAt signed signedOf relativeOf nameOf names reg8Text reg8Names reg16Text reg16Names conditionText conditionNames
@@ -119,31 +120,31 @@ behind-bytes : (s : List ℕ) → AllBytes s → AllBytes (operandBytes s)
 behind-bytes s bytes = chosen AllBytes (isPrefix (getD s 0 0) || (eqb (getD s 0 0) 0xCB || eqb (getD s 0 0) 0xED)) (drop 2 s) (drop 1 s) (drop-bytes 2 s bytes) (drop-bytes 1 s bytes)
 
 module _ (s : List ℕ) (bytes : AllBytes s) (done : decodeOf s .answer ≡ Answer.Done) where
-  pub full-most : length (fullText (decodeOf s .rec)) ≤ 52
+  pub full-most : length (fullText (decodeOf s .rec)) ≤ textMost
   full-most =
       let x = rowOf s in
       rw (ap (λ (d : Decoded). d .rec) (decides s done .made))
-      (le-trans (row-most x (operandBytes s) (four s) (behind-bytes s bytes) refl) (leb→le (length (fullText (recordOf x lowest zeros))) 52 (row-holds fits all-fit s)))
+      (le-trans (row-most x (operandBytes s) (four s) (behind-bytes s bytes) refl) (leb→le (length (fullText (recordOf x lowest zeros))) textMost (row-holds fits all-fit s)))
 
-  pub plain-most : length (plainText (decodeOf s .rec)) ≤ 52
+  pub plain-most : length (plainText (decodeOf s .rec)) ≤ textMost
   unfolding fullText
   plain-most = let h = simp length-append at full-most in omega arith
 
 -- nor is any count
-count-most : (a : Answer) (t out : List ℕ) → (a ≡ Answer.Done → length t ≤ 52) → countOf (answered a t out) ≤ 52
-count-most Answer.Done t out most = chosen (λ (w : Written). countOf w ≤ 52) (leb (length t) (length out)) _ _ (most refl) (omega arith)
+count-most : (a : Answer) (t out : List ℕ) → (a ≡ Answer.Done → length t ≤ textMost) → countOf (answered a t out) ≤ textMost
+count-most Answer.Done t out most = chosen (λ (w : Written). countOf w ≤ textMost) (leb (length t) (length out)) _ _ (most refl) (omega arith)
 count-most Answer.Nothing t out most = omega arith
 count-most Answer.Short t out most = omega arith
 count-most Answer.Long t out most = omega arith
 
 module _ (s : List ℕ) (bytes : AllBytes s) (out : List ℕ) where
-  pub full-count : countOf (textAnswer fullText (decodeOf s) out) ≤ 52
+  pub full-count : countOf (textAnswer fullText (decodeOf s) out) ≤ textMost
   full-count = count-most (decodeOf s .answer) (fullText (decodeOf s .rec)) out (full-most s bytes)
 
-  pub plain-count : countOf (textAnswer plainText (decodeOf s) out) ≤ 52
+  pub plain-count : countOf (textAnswer plainText (decodeOf s) out) ≤ textMost
   plain-count = count-most (decodeOf s .answer) (plainText (decodeOf s .rec)) out (plain-most s bytes)
 
--- DD CB 80 C7 is SET 00, (IX-128), A: its full text has 52 bytes
-pub full-reached : length (fullText (decodeOf (0xDD ∷ 0xCB ∷ 0x80 ∷ 0xC7 ∷ []) .rec)) ≡ 52
+-- DD CB 80 C7 is SET 00, (IX-128), A: its full text is the longest
+pub full-reached : length (fullText (decodeOf (0xDD ∷ 0xCB ∷ 0x80 ∷ 0xC7 ∷ []) .rec)) ≡ textMost
 unfolding decodeOf rowOf behindRow cb fullText plainText hex8 hex16 decimal digitAt signed signedOf nameOf names reg8Text reg8Names reg16Text reg16Names
 full-reached = refl

@@ -10,6 +10,7 @@ use Rattle.wording.specs.declared.Written.{Written}
 use Rattle.wording.specs.Ascii.{ascii}
 use Rattle.wording.specs.Digits.{decimal, digitAt}
 use Rattle.wording.specs.Names.{names, nameOf}
+use Rattle.wording.specs.Sizes.{nopSize}
 use Rattle.wording.specs.Text.{plainText}
 use Rattle.wording.specs.Answers.{textAnswer}
 
@@ -17,7 +18,7 @@ pub nop-text : plainText (decodeOf (0 ∷ []) .rec) ≡ ascii "NOP\t [4, 0, 0, 0
 unfolding decodeOf rowOf pageRow plain plainText nameOf names decimal digitAt
 nop-text = refl
 
-pub nop-fits : (out : List ℕ) → length out ≡ 23 → textAnswer plainText (decodeOf (0 ∷ [])) out ≡ Written.Done 23
+pub nop-fits : (out : List ℕ) → length out ≡ nopSize → textAnswer plainText (decodeOf (0 ∷ [])) out ≡ Written.Done nopSize
 unfolding decodeOf rowOf pageRow plain plainText nameOf names decimal digitAt
 nop-fits out e = rw e
 

@@ -9,7 +9,7 @@ use Rattle.table.specs.declared.Answer.{Answer}
 use Rattle.table.specs.declared.Decoded.{Decoded}
 use Rattle.wording.specs.declared.Written.{Written}
 
--- the paper's number of each answer
+-- document 01's number of each answer
 abbrev pub numberOf : Written → ℕ
 numberOf (Written.Done n) = 0
 numberOf Written.Nothing = 1
