@@ -26,7 +26,7 @@ const STARRED: [&[u8]; 16] = [
     &[0x00, 0x00, 0x00, 0x00, 0x00],
 ];
 
-/// The windows of its starred maps.
+/// The windows of its maps.
 const WINDOWS: [&[u8]; 5] = [
     &[0x18, 0xFE],
     &[0x18, 0xFF],

@@ -9,7 +9,7 @@ use crate::maps::{pairs, Drawn};
 use crate::runs::Run;
 
 /// Document 01's maps: image and marks. The origin is 0, and so is the entry.
-const STARRED: [(&[u8], &[u8]); 7] = [
+const DOCUMENT_MAPS: [(&[u8], &[u8]); 7] = [
     (&[0x18, 0xFE], &[1, 2]),
     (&[0x18, 0xFF], &[1, 2]),
     (&[0xC9], &[1]),
@@ -19,8 +19,8 @@ const STARRED: [(&[u8], &[u8]); 7] = [
     (&[0xDD, 0x23, 0xC9], &[1, 2, 1]),
 ];
 
-fn starred_maps() -> impl Iterator<Item = Drawn> {
-    STARRED.into_iter().map(|(image, marks)| Drawn {
+fn document_maps() -> impl Iterator<Item = Drawn> {
+    DOCUMENT_MAPS.into_iter().map(|(image, marks)| Drawn {
         image: image.to_vec(),
         origin: 0,
         marks: marks.to_vec(),
@@ -34,7 +34,7 @@ fn run(maps: impl Iterator<Item = Drawn> + 'static) -> Run {
 
 pub fn map_runs() -> Vec<(&'static str, Run)> {
     vec![
-        ("document 01's maps", run(starred_maps())),
+        ("document 01's maps", run(document_maps())),
         ("every marking of 1 to 6 bytes", run(every_marking())),
         ("every code of each page alone", run(lone_codes())),
         ("every code of each page cut off", run(cut_codes())),

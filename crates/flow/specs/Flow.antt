@@ -136,7 +136,7 @@ flowBy XOR x y = Flow.After
 abbrev pub flowOf : ℕ → OpCode → Flow
 flowOf a r = flowBy (r .ins) (leadOf a (r .op1)) (leadOf a (r .op2))
 
--- of a refused window, and of a record
+-- what is said of a window: a record is a row of its length and flow, any other answer is refused
 abbrev pub viewBy : Answer → ℕ → OpCode → View
 viewBy Answer.Done a r = View.Row (r .length .0) (flowOf a r)
 viewBy Answer.Nothing a r = View.Refused

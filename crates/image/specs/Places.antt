@@ -17,6 +17,6 @@ outside image origin address = ltb address origin || leb (origin + length image)
 abbrev pub window : List ℕ → List ℕ
 window s = take 4 s
 
--- those at an address
+-- those at an address of the image
 abbrev pub windowAt : List ℕ → ℕ → ℕ → List ℕ
 windowAt image origin address = window (drop (address - origin) image)

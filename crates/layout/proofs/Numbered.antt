@@ -1,6 +1,6 @@
 -- A kind's number as bytes: one test over all numbers. Assumes nothing.
 use mathlib.Core.Path.{_≡_, refl}
-use mathlib.Core.List.{List, [], _∷_}
+use mathlib.Core.List.{[], _∷_}
 use mathlib.Core.Bool.{Bool, true, false, cond}
 use Prim.Native.Nat.{ℕ, _<_, _≤_}
 use native.Mathlib.Omega.{arith}
@@ -8,7 +8,6 @@ use lib.Dec.{ltb}
 use borrow.Author.Tests.{ltb-false}
 use Rattle.wording.specs.Names.{instructionOf}
 use Rattle.table.specs.Row.{read}
-use Rattle.table.specs.Consequences.{values}
 use Rattle.table.proofs.Upto.{agree}
 use Rattle.packed.specs.Named.{instructionAt, reg8At, reg16At, conditionAt}
 use Rattle.packed.specs.Packed.{readKind, kindAt}

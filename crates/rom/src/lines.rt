@@ -1,4 +1,4 @@
-// The rows of an image, by the promises of the decoder and of the text.
+// The rows of an image, by the promises of the decoder and of the line.
 ghost use mathlib.Core.Path.{_≡_};
 ghost use mathlib.Core.List.{_++_};
 ghost use Prim.Native.Nat.{_+_, _-_, _<_, _≤_};

@@ -45,7 +45,7 @@ rowOf s =
 abbrev pub operandBytes : List ℕ → List ℕ
 operandBytes s = cond (isPrefix (getD s 0 0) || (eqb (getD s 0 0) 0xCB || eqb (getD s 0 0) 0xED)) (drop 2 s) (drop 1 s)
 
--- six T-state places, the first m filled and the rest zero
+-- a record from instruction, kinds, length, cycles, the bytes behind the code and the data; six T-state places, the first m filled and the rest zero
 abbrev pub made : Instruction → Kind → Kind → Kind → ℕ → Cycles → List ℕ → List ℕ → OpCode
 made i x y z n t s d =
     record {
