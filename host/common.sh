@@ -9,16 +9,21 @@ if [ "$machine" = x86_64 ]; then
     export EXPORTS_DIR=$archive
 fi
 
-# link NAME: compiles host/NAME.c and links it with the archive. The words that run it are then in `linked`: on x86-64 the
-# program alone, on another machine the kit's emulator before it.
+# link NAME: compiles host/NAME.c and links it with the archive, where one of the two is newer. The words that run it are then
+# in `linked`: on x86-64 the program alone, on another machine the kit's emulator before it.
 link() {
     local tools chain out=$top/target/$1
     tools=$(cd "$(dirname "$(rt doc)")/../on/$machine" && pwd -P)
     chain=$tools/toolchain
-    mkdir -p "$out"
-    "$chain/bin/clang" --target=x86_64-unknown-linux-gnu -O2 -fPIC -ffreestanding -c "$top/host/$1.c" -o "$out/$1.o" || exit 1
-    "$tools/bin/rattle-link" --target x86_64-unknown-linux-gnu --toolchain "$chain" -o "$out/$1" "$out/$1.o" "$archive/libexports.a" || exit 1
     linked=("$out/$1")
+    if [ ! -e "$out/$1" ] || [ "$top/host/$1.c" -nt "$out/$1" ] || [ "$archive/libexports.a" -nt "$out/$1" ]; then
+        mkdir -p "$out"
+        "$chain/bin/clang" --target=x86_64-unknown-linux-gnu -O2 -fPIC -ffreestanding -c "$top/host/$1.c" -o "$out/$1.o" || exit 1
+        "$tools/bin/rattle-link" --target x86_64-unknown-linux-gnu --toolchain "$chain" -o "$out/$1" "$out/$1.o" "$archive/libexports.a" 2>"$out/log" || {
+            cat "$out/log" >&2
+            exit 1
+        }
+    fi
     if [ "$machine" != x86_64 ]; then
         linked=("$chain/bin/qemu-x86_64" "$chain/lib/ld-linux-x86-64.so.2" --library-path "$chain/lib" "${linked[@]}")
     fi
