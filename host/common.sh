@@ -2,7 +2,7 @@
 # kit links with it, and the Rust programs.
 top=$(cd "$(dirname "$(readlink -f "${BASH_SOURCE[0]}")")/.." && pwd -P)
 PATH=$PATH:${HOME:-}/.cargo/bin
-export CARGO_TARGET_DIR=$top/target/host
+export CARGO_TARGET_DIR=$top/host/target
 archive=$top/target/staticlib
 machine=$(uname -m)
 if [ "$machine" = x86_64 ]; then

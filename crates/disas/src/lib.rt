@@ -3,7 +3,7 @@ ghost use mathlib.Core.Path.{_≡_};
 ghost use Prim.Native.Nat.{_≤_};
 ghost use lib.ListN.{length, drop, getD};
 ghost use Rattle.table.specs.Decode.{isPrefix, four, decodeOf};
-ghost use Rattle.disas.specs.Chain.{wholeOf, wholeEd, behindCode, restOf, prefixOf, decoderOf};
+ghost use Rattle.chain.specs.Chain.{wholeOf, wholeEd, behindCode, restOf, prefixOf, decoderOf};
 ghost use Rattle.disas.specs.Says.{nothingOf, foundOf};
 use cb_page::cb_row;
 use ed_page::ed_row;

@@ -13,7 +13,7 @@ use lib.ListN.{length, drop}
 use mathlib.Core.Bool.{cond}
 use Rattle.table.specs.Consequences.{first}
 use Rattle.prefix.specs.Changed.{changedOf}
-use Rattle.disas.specs.Chain.{nop, chainOf, restOf, prefixOf}
+use Rattle.chain.specs.Chain.{nop, chainOf, restOf, prefixOf}
 use Rattle.disas.proofs.Rest.{part-length, rest-is}
 use Rattle.disas.proofs.disas_dd_fd_prefix.Reads as prefix
 use Rattle.disas.proofs.disas_dd_fd_prefix.Kinds as prefix-kinds

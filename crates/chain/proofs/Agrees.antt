@@ -23,7 +23,7 @@ use Rattle.table.proofs.Answers.{prefixed}
 use Rattle.packed.specs.Named.{instructionAt, reg8At, reg16At, conditionAt}
 use Rattle.packed.specs.Packed.{packed, readKind, kindAt, recordFrom}
 use Rattle.prefix.specs.Changed.{indexed, isHl, renamed, withAddr, withHl, changedOf, besides, bitsOf}
-use Rattle.disas.specs.Chain.{wholeOf, wholeEd, chainOf, prefixOf, decoderOf}
+use Rattle.chain.specs.Chain.{wholeOf, wholeEd, chainOf, prefixOf, decoderOf}
 
 -- what a row, as a number, answers over the bytes s: 0 says that they are too few
 abbrev pub answered : ℕ → List ℕ → Decoded
