@@ -3,7 +3,9 @@
 use host::answer::{decoded, Refusal};
 use host::function::Function::{FullText, Record, Text};
 use host::function::TEXT_MAX;
+use host::original::disas;
 use host::pages::{edged, ED_BEHIND, PAGES};
+use std::panic::catch_unwind;
 
 /// The row; its bytes; length and instruction, three operand places, data, T-states, machine cycles.
 const STARRED_DONE: &str = "\
@@ -118,4 +120,11 @@ fn short_exactly_below_the_bytes_needed() {
 #[test]
 fn nothing_for_no_bytes() {
     assert_eq!(decoded(&[]), Err(Refusal::Nothing));
+}
+
+/// What document 01 says of the original beside its numbers 1 and 3.
+#[test]
+fn no_bytes_and_five() {
+    assert!(disas(&[]).is_none());
+    assert!(catch_unwind(|| disas(&[0; 5])).is_err());
 }
