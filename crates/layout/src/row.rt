@@ -1,15 +1,23 @@
 // The parts of a row that is a number, as bytes.
 ghost use mathlib.Core.Path.{_≡_};
+ghost use Prim.Native.Nat.{_<_};
 ghost use Rattle.wording.specs.Names.{instructionOf};
 ghost use Rattle.packed.specs.Named.{instructionAt};
 ghost use Rattle.packed.specs.Packed.{statesFrom};
 ghost use Rattle.layout.specs.Layout.{tripleOf, statesOf};
-ghost use Rattle.layout.specs.Row.{fixedKind, mostOf, lesserOf, fixedValue, tripleAt};
+ghost use Rattle.layout.specs.Row.{lesserOf, digitAt, fixedValue, tripleAt};
 use super::operand::byte_of;
 use super::operand::word_of;
 use packed::numbers::relative;
 use packed::numbers::signed;
 use packed::numbers::word;
+
+// By the first digit of a kind's number, counted from the end: the kind of an operand that the code fixes. Digits and no
+// `match`: which one it is cannot be guessed, and a wrong guess costs more than the shift.
+const FIXED_KINDS: u64 = 0xAAAA_AAAA_A11B_9870;
+
+// By the same digit: the largest second digit that names one of its own.
+const LARGEST: u64 = 0xCCCC_CCCC_CFF7_77C0;
 
 // The lesser of two.
 fn lesser(n: u8, most: u8) -> u8
@@ -24,43 +32,19 @@ pub(crate) fn instruction_byte(n: u8) -> u8
     lesser(n, 67)
 }
 
-// The kind of an operand that the code fixes, by the first digit of its number.
-fn fixed_kind(digit: u8) -> u8
-    ensures { λ b. ⌜ b ≡ fixedKind digit ⌝ }
+// The hex digit of a number at a place, counted from its end.
+fn digit(n: u64, place: u8) -> u8
+    requires { ⌜ place < 16 ⌝ }
+    ensures { λ d. ⌜ d ≡ digitAt n place ⌝ }
 {
-    match digit {
-        0 => 0,
-        1 => 7,
-        2 => 8,
-        3 => 9,
-        4 => 11,
-        5 => 1,
-        6 => 1,
-        _ => 10,
-    }
-}
-
-// The largest second digit that names one of its own.
-fn most_of(digit: u8) -> u8
-    ensures { λ b. ⌜ b ≡ mostOf digit ⌝ }
-{
-    match digit {
-        0 => 0,
-        1 => 12,
-        2 => 7,
-        3 => 7,
-        4 => 7,
-        5 => 15,
-        6 => 15,
-        _ => 12,
-    }
+    ((n >> (place * 4)) % 16) as u8
 }
 
 // The value of an operand that the code fixes; where the first digit is 6, eight times the second.
 fn fixed_value(k: u8) -> u16
     ensures { λ v. ⌜ v ≡ fixedValue k ⌝ }
 {
-    let n = lesser(k % 16, most_of(k / 16)) as u16;
+    let n = lesser(k % 16, digit(LARGEST, k / 16)) as u16;
     if k / 16 == 6 {
         return n * 8;
     }
@@ -88,7 +72,7 @@ pub(crate) fn place_at(k: u8, lo: u8, hi: u8) -> [u8; 3]
         7 => triple(1, hi as u16),
         8 => triple(6, byte_of(signed(lo)) as u16),
         9 => triple(6, 256 + (byte_of(signed(lo)) as u16)),
-        _ => triple(fixed_kind(k / 16), fixed_value(k)),
+        _ => triple(digit(FIXED_KINDS, k / 16), fixed_value(k)),
     }
 }
 
