@@ -3,8 +3,10 @@
 mod block;
 mod child;
 mod hash;
+mod kept;
 mod kind;
 mod left;
+mod original;
 mod pace;
 mod progress;
 mod run;
@@ -13,32 +15,33 @@ mod tally;
 mod work;
 
 use kind::{kinds, Kind};
+use original::Original;
 use pace::seconds;
-use run::Run;
+use run::{Run, Sides};
 use std::path::Path;
 use std::process::ExitCode;
 use std::time::Instant;
 use std::{env, fs, io};
 use tally::Tally;
 
-/// What is asked for: the folder of the progress files, a line that names the two sides, the kinds, and the command that runs
-/// the archive's side.
+/// What is asked for: the folder of the files that are kept, the words that name the two sides, the kinds, and the command that
+/// runs the archive's side.
 struct Words<'a> {
     folder: &'a Path,
-    sides: &'a str,
+    sides: Sides<'a>,
     kinds: Vec<Kind>,
     archive: &'a [String],
 }
 
-/// FOLDER SIDES [KIND...] -- COMMAND...
+/// FOLDER ARCHIVE ORIGINAL [KIND...] -- COMMAND...
 fn parsed(words: &[String]) -> Option<Words<'_>> {
     let end = words.iter().rposition(|word| word == "--")?;
-    let [folder, sides, named @ ..] = &words[..end] else {
+    let [folder, archive, original, named @ ..] = &words[..end] else {
         return None;
     };
     Some(Words {
         folder: Path::new(folder),
-        sides,
+        sides: Sides { archive, original },
         kinds: kinds(named)?,
         archive: &words[end + 1..],
     })
@@ -50,8 +53,9 @@ fn compare(words: &Words) -> io::Result<bool> {
     fs::create_dir_all(words.folder)?;
     println!("exhaust: {}", words.sides);
     for kind in &words.kinds {
-        let run = Run::open(*kind, words.archive, words.folder, words.sides)?;
-        all.join(run.compare()?);
+        let run = Run::open(*kind, words.archive, words.folder, &words.sides)?;
+        let original = Original::open(words.folder, words.sides.original, *kind)?;
+        all.join(run.compare(&original)?);
     }
     println!("exhaust: {}, {}", all.summary(), seconds(start.elapsed()));
     Ok(all.is_equal(words.kinds.len()))

@@ -1,18 +1,32 @@
 //! Compares what is left of a kind, and prints how far it is and what differs.
 
 use crate::block::BLOCKS;
+use crate::kept::Before;
 use crate::kind::Kind;
+use crate::original::Original;
 use crate::pace::Pace;
-use crate::progress::{Before, Progress};
+use crate::progress::Progress;
 use crate::search::search;
 use crate::tally::{grouped, Tally};
 use crate::work::{work, Compared, Queue};
 use std::path::Path;
 use std::sync::mpsc::{channel, Receiver, RecvTimeoutError, Sender};
-use std::{io, mem, thread};
+use std::{fmt, io, mem, thread};
 
 /// So many differing blocks of a kind are searched and shown; those past them are counted.
 const SHOWN: usize = 20;
+
+/// What names the two sides: a word for the archive, and one for the original and the programs that ask it.
+pub struct Sides<'a> {
+    pub archive: &'a str,
+    pub original: &'a str,
+}
+
+impl fmt::Display for Sides<'_> {
+    fn fmt(&self, f: &mut fmt::Formatter) -> fmt::Result {
+        write!(f, "archive {}, original {}", self.archive, self.original)
+    }
+}
 
 /// A kind, the command that runs the archive's side, and what was found so far.
 pub struct Run<'a> {
@@ -28,9 +42,9 @@ impl<'a> Run<'a> {
         kind: Kind,
         archive: &'a [String],
         folder: &Path,
-        sides: &str,
+        sides: &Sides,
     ) -> io::Result<Run<'a>> {
-        let progress = Progress::open(&folder.join(kind.name), sides)?;
+        let progress = Progress::open(&folder.join(kind.name), &sides.to_string())?;
         let earlier = BLOCKS - progress.open.len();
         let run = Run {
             kind,
@@ -41,7 +55,7 @@ impl<'a> Run<'a> {
                 ..Tally::default()
             },
         };
-        run.print(&match run.progress.before {
+        run.print(&match run.progress.before() {
             Before::Nothing => "begins".into(),
             Before::Unfit => "begins anew: its file is torn, or of other sides".into(),
             Before::Fit => format!("goes on: {} blocks were equal before", grouped(earlier)),
@@ -49,12 +63,12 @@ impl<'a> Run<'a> {
         Ok(run)
     }
 
-    /// Compares all blocks that are still open.
-    pub fn compare(mut self) -> io::Result<Tally> {
+    /// Compares all blocks that are still open with what the original gives.
+    pub fn compare(mut self, original: &Original) -> io::Result<Tally> {
         let queue = Queue::new(mem::take(&mut self.progress.open));
         let (archive, function) = (self.archive, self.kind.function);
         let worker = |to: Sender<_>| {
-            if let Err(error) = work(archive, function, &queue, &to) {
+            if let Err(error) = work(archive, function, original, &queue, &to) {
                 // Where nobody listens any more, another error came first.
                 let _ = to.send(Err(error));
             }

@@ -1,7 +1,7 @@
 //! The workers: each holds blocks of its archive to the original.
 
-use crate::block::by_original;
 use crate::child::Archive;
+use crate::original::Original;
 use host::function::Function;
 use std::io;
 use std::sync::atomic::{AtomicUsize, Ordering};
@@ -35,6 +35,7 @@ pub struct Compared {
 pub fn work(
     words: &[String],
     function: Function,
+    original: &Original,
     queue: &Queue,
     to: &Sender<io::Result<Compared>>,
 ) -> io::Result<()> {
@@ -42,10 +43,10 @@ pub fn work(
     let mut next = asked(queue, &mut archive)?;
     while let Some(block) = next {
         let failed = |error| at(block, error);
-        // One block ahead, so that the child works on while the original does, and while the answer goes round.
+        // One block ahead, so that the child works on while the original is asked, and while the answer goes round.
         next = asked(queue, &mut archive).map_err(failed)?;
-        let original = by_original(function, block);
-        let equal = archive.hash().map_err(failed)? == original;
+        let hash = archive.hash().map_err(failed)?;
+        let equal = original.gives(block, hash).map_err(failed)?;
         if to.send(Ok(Compared { block, equal })).is_err() {
             return Ok(());
         }
