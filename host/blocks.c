@@ -1,17 +1,7 @@
-// The archive's side of the exhaustive run: compiled by the kit for x86-64, with no header at hand. It reads requests on
-// standard input, as src/bin/exhaust/child.rs writes them, calls a function for so many inputs of four bytes, and writes one
-// hash of all that the calls left, or what each of them left.
-typedef unsigned char u8;
-typedef unsigned int u32;
-typedef unsigned long u64;
-typedef unsigned long usize;
-typedef long isize;
-
-extern isize read(int, void *, usize);
-extern isize write(int, const void *, usize);
-extern u8 z80_record(const u8 *ins, usize ins_len, u8 *out, usize out_len);
-extern u8 z80_text(const u8 *ins, usize ins_len, u8 *out, usize out_len, u32 *count);
-extern u8 z80_full_text(const u8 *ins, usize ins_len, u8 *out, usize out_len, u32 *count);
+// The archive's side of the exhaustive run: compiled by the kit for x86-64. It reads requests on standard input, as
+// src/bin/exhaust/child.rs writes them, calls a function for so many inputs of four bytes, and writes one hash of all that the
+// calls left, or what each of them left.
+#include "exports.h"
 
 // The functions by the numbers of src/function.rs, and what is wanted of their calls.
 enum { RECORD, TEXT, FULL_TEXT };

@@ -1,21 +1,8 @@
 // The bridge between the comparison and the exported functions, where the machine is no x86-64: compiled by the kit for
-// x86-64, with no header at hand, and run under the kit's emulator. It reads calls on standard input, as
-// `Calls::request` writes them, and writes for each the answer number, whether a map was altered, the lent count, number of
-// bytes passed and address, and the lent buffer as they are then.
-typedef unsigned char u8;
-typedef unsigned short u16;
-typedef unsigned int u32;
-typedef unsigned long usize;
-typedef long isize;
-
-extern isize read(int, void *, usize);
-extern isize write(int, const void *, usize);
-extern u8 z80_record(const u8 *ins, usize ins_len, u8 *out, usize out_len);
-extern u8 z80_text(const u8 *ins, usize ins_len, u8 *out, usize out_len, u32 *count);
-extern u8 z80_full_text(const u8 *ins, usize ins_len, u8 *out, usize out_len, u32 *count);
-extern u8 z80_row(const u8 *image, usize image_len, u16 origin, u16 address, u8 *out, usize out_len, u32 *count, u32 *passed);
-extern u8 z80_map_check(const u8 *image, usize image_len, u16 origin, const u8 *marks, usize marks_len, const u8 *entries,
-                        usize entries_len, u32 *address);
+// x86-64 and run under the kit's emulator. It reads calls on standard input, as `Calls::request` writes them, and writes for
+// each the answer number, whether a map was altered, the lent count, number of bytes passed and address, and the lent buffer as
+// they are then.
+#include "exports.h"
 
 // The functions by the numbers of src/function.rs and src/calls.rs.
 enum { RECORD, TEXT, FULL_TEXT, ROW, MAP };

@@ -9,14 +9,17 @@ if [ "$machine" = x86_64 ]; then
     export EXPORTS_DIR=$archive
 fi
 
-# link NAME: compiles host/NAME.c and links it with the archive, where one of the two is newer. The words that run it are then
-# in `linked`: on x86-64 the program alone, on another machine the kit's emulator before it.
+# link NAME: compiles host/NAME.c and links it with the archive, where one of these or the header is newer. The words that run
+# it are then in `linked`: on x86-64 the program alone, on another machine the kit's emulator before it.
 link() {
-    local tools chain out=$top/target/$1
+    local tools chain part newer= out=$top/target/$1
     tools=$(cd "$(dirname "$(rt doc)")/../on/$machine" && pwd -P)
     chain=$tools/toolchain
     linked=("$out/$1")
-    if [ ! -e "$out/$1" ] || [ "$top/host/$1.c" -nt "$out/$1" ] || [ "$archive/libexports.a" -nt "$out/$1" ]; then
+    for part in "$top/host/$1.c" "$top/host/exports.h" "$archive/libexports.a"; do
+        [ "$part" -nt "$out/$1" ] && newer=$part
+    done
+    if [ -n "$newer" ]; then
         mkdir -p "$out"
         "$chain/bin/clang" --target=x86_64-unknown-linux-gnu -O2 -fPIC -ffreestanding -c "$top/host/$1.c" -o "$out/$1.o" || exit 1
         "$tools/bin/rattle-link" --target x86_64-unknown-linux-gnu --toolchain "$chain" -o "$out/$1" "$out/$1.o" "$archive/libexports.a" 2>"$out/log" || {
