@@ -5,6 +5,7 @@ ghost use Rattle.edits.specs.Edits.{editsOf};
 use layout::layout;
 use libc::STDIN_FILENO;
 use libc::STDOUT_FILENO;
+use numerals::put_hex8;
 use opcode::counts::Bytes;
 use opcode::counts::MCycles;
 use opcode::counts::TStates;
@@ -17,7 +18,6 @@ use opcode::timing::Timing;
 use owner::Twice;
 use owner::extend_and_push;
 use owner::insert_and_remove;
-use writer::numbers::put_hex8;
 use writer::put;
 use writer::put_bytes;
 

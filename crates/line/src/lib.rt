@@ -2,12 +2,12 @@
 ghost use mathlib.Core.Path.{_≡_};
 ghost use Rattle.line.specs.Line.{addressText, decodedLine, shortLine, lineBy, passedBy};
 ghost use Rattle.writer.specs.Wrote.{Wrote};
+use numerals::put_hex8;
+use numerals::put_hex16;
 use opcode::record::OpCode;
 use record_text::put_full_text;
 use table::Answer;
 use table::Decoded;
-use writer::numbers::put_hex8;
-use writer::numbers::put_hex16;
 use writer::put;
 use writer::put_bytes;
 

@@ -1,18 +1,16 @@
 // How instructions, registers and conditions are spelt. The spellings stand in fixed tables, five bytes a row: four letters,
 // with blanks behind a shorter spelling, and the count of those that are its own.
-pub mod numbers;
-
 ghost use Rattle.wording.specs.Names.{nameOf, reg8Text, reg16Text, conditionText};
 ghost use Rattle.writer.specs.Wrote.{Wrote};
 ghost use Rattle.names.specs.Table.{Row, spelling};
-use numbers::condition_number;
-use numbers::instruction_number;
-use numbers::reg8_number;
-use numbers::reg16_number;
 use opcode::instruction::Instruction;
 use opcode::registers::FlagCondition;
 use opcode::registers::Reg8;
 use opcode::registers::Reg16;
+use ordinals::condition_number;
+use ordinals::instruction_number;
+use ordinals::reg8_number;
+use ordinals::reg16_number;
 use writer::put_bytes;
 
 // The 68 names, in the order of the enum.

@@ -8,14 +8,14 @@ ghost use Rattle.writer.specs.Wrote.{Wrote};
 use names::put_condition;
 use names::put_reg8;
 use names::put_reg16;
+use numerals::put_hex8;
+use numerals::put_hex16;
+use numerals::put_signed;
 use opcode::operand::Operand;
 use opcode::operand::Place;
 use opcode::registers::Reg8;
 use opcode::registers::Reg16;
 use opcode::registers::RegI;
-use writer::numbers::put_hex8;
-use writer::numbers::put_hex16;
-use writer::numbers::put_signed;
 use writer::put;
 use writer::put_bytes;
 

@@ -3,11 +3,11 @@ ghost use lib.ListN.{take, drop};
 ghost use Rattle.wording.specs.Text.{each, byteText, nextTime, timesText, operandsText, plainText, fullText};
 ghost use Rattle.writer.specs.Wrote.{Wrote};
 use names::put_name;
+use numerals::put_decimal;
+use numerals::put_hex8;
 use opcode::counts::TStates;
 use opcode::record::OpCode;
 use operands::put_place;
-use writer::numbers::put_decimal;
-use writer::numbers::put_hex8;
 use writer::put;
 use writer::put_bytes;
 

@@ -1,7 +1,5 @@
 // Writing to lent bytes. A function that is given a place `at` writes behind what stands before it, as far as there is room,
 // and gives the place behind what it wrote.
-pub mod numbers;
-
 ghost use mathlib.Core.Path.{_≡_};
 ghost use mathlib.Core.List.{[], _∷_};
 ghost use Rattle.wording.specs.Answers.{fitted, leaves};
