@@ -1,6 +1,6 @@
 // The four edits of the T-state list on a record that its owner lends: done there, or refused and nothing altered.
 ghost use Rattle.opcode.specs.Timing.{insertOf, extendOf, pushOf, removeOf};
-ghost use Rattle.lent.specs.Lent.{Leaves};
+ghost use Rattle.lending.specs.Lent.{Leaves};
 use opcode::counts::TStates;
 use opcode::record::OpCode;
 use opcode::timing::Timing;

@@ -1,3 +1,1 @@
-pub mod Both
-pub mod Lending
-pub mod Owning
+pub mod Answer

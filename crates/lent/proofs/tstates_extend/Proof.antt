@@ -1,4 +1,4 @@
--- `lent::tstates_extend` meets its contract, by the law of `Edit.antt`: the edit is `extendOf`, and it takes a `Timing`.
+-- `lent::tstates_extend` meets its contract, by the law of `lending`'s `Edit.antt`: the edit is `extendOf`, and it takes a `Timing`.
 -- Assumes nothing.
 use mathlib.Core.Path.{refl}
 use mathlib.Core.List.{[], _∷_}
@@ -12,8 +12,8 @@ use Rattle.opcode.proofs.timing.Timing as timing
 use Rattle.opcode.proofs.timing.Timing.Laws as timing-laws
 use Rattle.timing.proofs.tstates_extend.Symbol as by-value
 use Rattle.timing.proofs.tstates_extend.Met as by-value-thm
-use Rattle.lent.proofs.Edit.{edits}
-use Rattle.lent.proofs.Parameter.{struct}
+use Rattle.lending.proofs.Edit.{edits}
+use Rattle.lending.proofs.Parameter.{struct}
 use Rattle.lent.proofs.tstates_extend as lent
 use Rattle.lent.proofs.tstates_extend.Key as key
 use Rattle.lent.proofs.tstates_extend.Statement as stated

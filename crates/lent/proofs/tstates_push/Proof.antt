@@ -1,4 +1,4 @@
--- `lent::tstates_push` meets its contract, by the law of `Edit.antt`: the edit is `pushOf`, and it takes a `TStates`.
+-- `lent::tstates_push` meets its contract, by the law of `lending`'s `Edit.antt`: the edit is `pushOf`, and it takes a `TStates`.
 -- Assumes nothing.
 use mathlib.Core.Path.{refl}
 use mathlib.Core.List.{[], _∷_}
@@ -12,8 +12,8 @@ use Rattle.opcode.proofs.counts.TStates as tstates
 use Rattle.opcode.proofs.counts.TStates.Laws as tstates-laws
 use Rattle.timing.proofs.tstates_push.Symbol as by-value
 use Rattle.timing.proofs.tstates_push.Met as by-value-thm
-use Rattle.lent.proofs.Edit.{edits}
-use Rattle.lent.proofs.Parameter.{struct}
+use Rattle.lending.proofs.Edit.{edits}
+use Rattle.lending.proofs.Parameter.{struct}
 use Rattle.lent.proofs.tstates_push as lent
 use Rattle.lent.proofs.tstates_push.Key as key
 use Rattle.lent.proofs.tstates_push.Statement as stated

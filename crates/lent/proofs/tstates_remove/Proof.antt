@@ -1,4 +1,4 @@
--- `lent::tstates_remove` meets its contract, by the law of `Edit.antt`: the edit is `removeOf`, and it takes a place.
+-- `lent::tstates_remove` meets its contract, by the law of `lending`'s `Edit.antt`: the edit is `removeOf`, and it takes a place.
 -- Assumes nothing.
 use mathlib.Core.Path.{refl}
 use mathlib.Core.List.{[], _∷_}
@@ -10,8 +10,8 @@ use Rattle.opcode.specs.Timing.{removeOf}
 use Rattle.timing.proofs.Rules.{remove-kept}
 use Rattle.timing.proofs.tstates_remove.Symbol as by-value
 use Rattle.timing.proofs.tstates_remove.Met as by-value-thm
-use Rattle.lent.proofs.Edit.{edits}
-use Rattle.lent.proofs.Parameter.{place}
+use Rattle.lending.proofs.Edit.{edits}
+use Rattle.lending.proofs.Parameter.{place}
 use Rattle.lent.proofs.tstates_remove as lent
 use Rattle.lent.proofs.tstates_remove.Key as key
 use Rattle.lent.proofs.tstates_remove.Statement as stated

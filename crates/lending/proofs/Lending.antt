@@ -1,4 +1,4 @@
--- The owner's side of an edit: a local record is lent to it, and had back as the edit left it. One rule, `lends`, for every edit of the crate `lent` and every owner.
+-- The owner's side of an edit: a local record is lent to it, and had back as the edit left it. One rule, `lends`, for every edit of a lent record and every owner.
 -- Assumes nothing.
 use mathlib.Core.Path.{_≡_, refl, ap, subst, _∙_}
 use Prim.Native.Nat.{ℕ}
@@ -35,10 +35,10 @@ use Rattle.opcode.specs.declared.record.OpCode.{OpCode}
 use Rattle.opcode.specs.declared.timing.Edited.{Edited}
 use Rattle.opcode.proofs.record.OpCode as T
 use Rattle.opcode.proofs.record.OpCode.Laws as T′
-use Rattle.lent.specs.Lent.{Leaves}
-use Rattle.lent.proofs.Edit.{rv, lent}
-use Rattle.lent.proofs.Locals.{opds-are}
-use Rattle.lent.proofs.Plain.{rows, values, on, vals-on, values-on, flat-on, owns-on}
+use Rattle.lending.specs.Lent.{Leaves}
+use Rattle.lending.proofs.Edit.{rv, lent}
+use Rattle.lending.proofs.Locals.{opds-are}
+use Rattle.lending.proofs.Plain.{rows, values, on, vals-on, values-on, flat-on, owns-on}
 
 -- ---- a local's cell is what a borrow holds, each way
 module _ {M : Type 1} (𝓤 : URA M) (H : Heap 𝓤) (A : Atoms 𝓤) (W : Given 𝓤 H A) (h : OpCode) (l : ℕ) where

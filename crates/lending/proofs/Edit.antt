@@ -47,9 +47,9 @@ use Rattle.opcode.proofs.record.OpCode as T
 use Rattle.opcode.proofs.record.OpCode.Laws as T′
 use Rattle.opcode.proofs.timing.Edited as E
 use Rattle.opcode.proofs.timing.Edited.Laws as E′
-use Rattle.lent.proofs.Locals.{Blocks, declared, entries, copies, beyond, Placed, behind-two, whole, in-front, past, alloc-all, pass-all, free-all, at-local, opds-are, under, read-all}
-use Rattle.lent.proofs.Parameter.{Parameter, kinds, spells, tells, lawfuls}
-use Rattle.lent.proofs.Plain.{slots, dropped, rows, values, spelt, told, typed, lasting, fitting, had, going, on, vals-on, values-on, flat-on, owns-on}
+use Rattle.lending.proofs.Locals.{Blocks, declared, entries, copies, beyond, Placed, behind-two, whole, in-front, past, alloc-all, pass-all, free-all, at-local, opds-are, under, read-all}
+use Rattle.lending.proofs.Parameter.{Parameter, kinds, spells, tells, lawfuls}
+use Rattle.lending.proofs.Plain.{slots, dropped, rows, values, spelt, told, typed, lasting, fitting, had, going, on, vals-on, values-on, flat-on, owns-on}
 
 -- the machine value of a record
 abbrev pub rv : OpCode → Val

@@ -11,7 +11,7 @@ use ghost.Atoms.{Atoms, sem}
 use contract.Lifetimes.{Lfts}
 use denote.RattleType.{RattleType, Denots, Valss, flat, owns}
 use denote.Laws.{Ises, Are}
-use Rattle.lent.proofs.Plain.{rows}
+use Rattle.lending.proofs.Plain.{rows}
 
 module _ (n : ℕ) (κs : Lfts n) (Qs : List RattleType) where
   abbrev pub fore : (Rs : List RattleType) → Denots (rows n κs (Rs ++ Qs)) → Denots (rows n κs Rs)
