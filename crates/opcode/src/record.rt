@@ -1,5 +1,6 @@
 // The record of a decoded row.
 ghost use mathlib.Core.Path.{_≡_};
+ghost use Prim.Native.Nat.{_+_, _≤_};
 ghost use Rattle.opcode.specs.Record.{emptyOf, sum, timeOf};
 use super::counts::Bytes;
 use super::counts::MCycles;
@@ -65,5 +66,12 @@ fn total(t: [TStates; 6]) -> u16
     let d = t[3];
     let e = t[4];
     let f = t[5];
-    (a.0 as u16) + (b.0 as u16) + (c.0 as u16) + (d.0 as u16) + (e.0 as u16) + (f.0 as u16)
+    three(a, b, c) + three(d, e, f)
+}
+
+// The sum of three.
+fn three(a: TStates, b: TStates, c: TStates) -> u16
+    ensures { λ r. ⌜ (r ≡ a .0 + b .0 + c .0) × (r ≤ 765) ⌝ }
+{
+    (a.0 as u16) + (b.0 as u16) + (c.0 as u16)
 }
