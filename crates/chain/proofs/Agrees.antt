@@ -1,14 +1,14 @@
--- The decoder gives what the table says: a test over the codes of each page, with a prefix in front and without.
+-- The decoder gives what the table says: without a prefix by the pages' lines, behind each prefix by a test over the codes of each page.
 -- Assumes nothing.
 use mathlib.Core.Path.{_≡_, refl, sym, subst}
 use mathlib.Core.Bool.{Bool, true, false, cond, _||_}
 use mathlib.Core.Logic.{⊎-elim}
 use mathlib.Core.List.{List, [], _∷_}
-use Prim.Native.Nat.{ℕ, _<_, _≤_}
+use Prim.Native.Nat.{ℕ, _<_, _≤_, _/_, _%_}
 use native.Mathlib.Omega.{arith}
-use lib.Dec.{eqb}
+use lib.Dec.{eqb, ltb}
 use lib.ListN.{length}
-use borrow.Author.Tests.{eqb-true}
+use borrow.Author.Tests.{eqb-true, ltb-true, ltb-false, eq-eqb, ne-eqb}
 use Rattle.table.specs.declared.Answer.{Answer}
 use Rattle.table.specs.declared.Decoded.{Decoded}
 use Rattle.table.specs.Plain.{plain}
@@ -16,14 +16,13 @@ use Rattle.table.specs.Cb.{cb}
 use Rattle.table.specs.Ed.{ed}
 use Rattle.table.specs.Prefix.{behindRow}
 use Rattle.table.specs.Decode.{isPrefix, pageRow, rowOf, operandBytes, four, refused, done, decodeOf}
-use Rattle.table.specs.Consequences.{values, AllBytes}
-use Rattle.table.proofs.Upto.{agree}
-use Rattle.table.proofs.Pages.{otherwise}
-use Rattle.table.proofs.Answers.{prefixed}
+use Rattle.table.specs.Consequences.{AllBytes, first, second}
+use Rattle.table.proofs.Answers.{prefixed, page-row}
 use Rattle.packed.specs.Named.{instructionAt, reg8At, reg16At, conditionAt}
 use Rattle.packed.specs.Packed.{packed, readKind, kindAt, recordFrom}
 use Rattle.prefix.specs.Changed.{indexed, isHl, renamed, withAddr, withHl, changedOf, besides, bitsOf}
 use Rattle.chain.specs.Chain.{wholeOf, wholeEd, chainOf, prefixOf, decoderOf}
+use Rattle.chain.proofs.Pages.{but, by-code, every, leads, by-number, page-same, chain-page}
 
 -- what a row, as a number, answers over the bytes s: 0 says that they are too few
 abbrev pub answered : ℕ → List ℕ → Decoded
@@ -36,20 +35,11 @@ abbrev Meet : List ℕ → Type 0
 Meet s = decoded s ≡ decodeOf s
 
 -- both at each code b of a page, but where t tells otherwise; f lays the bytes around the code
-abbrev but : (ℕ → Bool) → (List ℕ → Decoded) → (ℕ → List ℕ) → List Decoded
-but t g f = values (λ (b : ℕ). cond (t b) (refused Answer.Short) (g (f b))) 0 256
+abbrev Codes : (ℕ → Bool) → (ℕ → List ℕ) → Type 0
+Codes t f = but t (refused Answer.Short) (λ (b : ℕ). decoded (f b)) ≡ but t (refused Answer.Short) (λ (b : ℕ). decodeOf (f b))
 
-by-code : (t : ℕ → Bool) (f : ℕ → List ℕ) → but t decoded f ≡ but t decodeOf f → (b : ℕ) → b < 256 → t b ≡ false → Meet (f b)
-by-code t f same b fits q =
-    otherwise (t b) (refused Answer.Short) (decoded (f b)) (decodeOf (f b)) q
-    (agree (λ (k : ℕ). cond (t k) (refused Answer.Short) (decoded (f k))) (λ (k : ℕ). cond (t k) (refused Answer.Short) (decodeOf (f k))) (refused Answer.Short) 256 same b fits)
-
-abbrev every : ℕ → Bool
-every b = false
-
--- CB and ED, which have a page of their own
-abbrev leads : ℕ → Bool
-leads b = eqb b 0xCB || eqb b 0xED
+meets : (t : ℕ → Bool) (f : ℕ → List ℕ) → Codes t f → (b : ℕ) → b < 256 → t b ≡ false → Meet (f b)
+meets t f same b fits q = by-code t (refused Answer.Short) (λ (k : ℕ). decoded (f k)) (λ (k : ℕ). decodeOf (f k)) same b fits q
 
 -- what holds behind CB, behind ED and behind any other byte
 by-lead : (P : ℕ → Type 0) (b : ℕ) → P 0xCB → P 0xED → (leads b ≡ false → P b) → P b
@@ -68,47 +58,33 @@ by-prefix P b x y other = by-test (isPrefix b) refl
     by-test true q = ⊎-elim (λ e. subst P (sym e) x) (λ e. subst P (sym e) y) (prefixed b q)
     by-test false q = other q
 
--- one to four bytes with no prefix in front, l behind the second one
-record Codes (b1 : ℕ) (l : List ℕ) : Type 0 where
-  pub plain-codes : but (λ (b : ℕ). leads b || isPrefix b) decoded (λ (b : ℕ). b ∷ b1 ∷ l) ≡ but (λ (b : ℕ). leads b || isPrefix b) decodeOf (λ (b : ℕ). b ∷ b1 ∷ l)
-  pub cb-codes : but every decoded (λ (b : ℕ). 0xCB ∷ b ∷ l) ≡ but every decodeOf (λ (b : ℕ). 0xCB ∷ b ∷ l)
-  pub ed-codes : but every decoded (λ (b : ℕ). 0xED ∷ b ∷ l) ≡ but every decodeOf (λ (b : ℕ). 0xED ∷ b ∷ l)
+-- what the number of a page's row, taken whole, answers to four bytes or fewer
+number-answers : (r n : ℕ) (s : List ℕ) → ltb 4 n ≡ false → answered (wholeEd r n) s ≡ by-number n (operandBytes s) (four s) r
+unfolding wholeOf wholeEd
+number-answers r n s most = by-tests (eqb r 0) (ltb n 4) (ltb n (r / 0x100000000 % 16)) refl refl refl
+  where
+    by-tests : (u v w : Bool) → eqb r 0 ≡ u → ltb n 4 ≡ v → ltb n (r / 0x100000000 % 16) ≡ w → answered (wholeEd r n) s ≡ by-number n (operandBytes s) (four s) r
+    by-tests true true w e f g = rw (e, ne-eqb n 4 (λ q. omega (arith, ltb-true n 4 f)), f)
+    by-tests true false w e f g = rw (e, eq-eqb n 4 (omega (arith, ltb-false 4 n most, ltb-false n 4 f)), f)
+    by-tests false v true e f g = rw (e, g)
+    by-tests false v false e f g = rw (e, g, e)
 
-by-page : (b0 b1 : ℕ) (l : List ℕ) → Codes b1 l → b0 < 256 → b1 < 256 → isPrefix b0 ≡ false → Meet (b0 ∷ b1 ∷ l)
-by-page b0 b1 l codes h0 h1 q =
-    by-lead (λ (b : ℕ). Meet (b ∷ b1 ∷ l)) b0 (by-code every (λ (b : ℕ). 0xCB ∷ b ∷ l) (codes .cb-codes) b1 h1 refl) (by-code every (λ (b : ℕ). 0xED ∷ b ∷ l) (codes .ed-codes) b1 h1 refl)
-    (λ e. by-code (λ (b : ℕ). leads b || isPrefix b) (λ (b : ℕ). b ∷ b1 ∷ l) (codes .plain-codes) b0 h0 (rw (e, q)))
+-- one to four bytes with no prefix in front
+page-meets : (s : List ℕ) → AllBytes s → eqb (length s) 0 ≡ false → ltb 4 (length s) ≡ false → isPrefix (first s) ≡ false → Meet s
+unfolding decodeOf
+page-meets s bytes some most q =
+    rw (chain-page _ s bytes some q, number-answers _ _ s most, page-same (length s) (operandBytes s) (four s) (first s) (second s), some, most, page-row s q, q)
 
-one-meets : (b0 : ℕ) → b0 < 256 → Meet (b0 ∷ [])
-unfolding plain cb ed pageRow rowOf behindRow decodeOf chainOf wholeOf wholeEd packed kindAt readKind instructionAt reg8At reg16At conditionAt
-one-meets b0 h0 = by-code every (λ (b : ℕ). b ∷ []) refl b0 h0 refl
-
-two-codes : (b1 : ℕ) → Codes b1 []
-unfolding plain cb ed pageRow rowOf decodeOf chainOf wholeOf wholeEd packed kindAt readKind instructionAt reg8At reg16At conditionAt
-two-codes b1 = record { plain-codes = refl; cb-codes = refl; ed-codes = refl }
-
-three-codes : (b1 b2 : ℕ) → Codes b1 (b2 ∷ [])
-unfolding plain cb ed pageRow rowOf decodeOf chainOf wholeOf wholeEd packed kindAt readKind instructionAt reg8At reg16At conditionAt
-three-codes b1 b2 = record { plain-codes = refl; cb-codes = refl; ed-codes = refl }
-
-four-codes : (b1 b2 b3 : ℕ) → Codes b1 (b2 ∷ b3 ∷ [])
-unfolding plain cb ed pageRow rowOf decodeOf chainOf wholeOf wholeEd packed kindAt readKind instructionAt reg8At reg16At conditionAt
-four-codes b1 b2 b3 = record { plain-codes = refl; cb-codes = refl; ed-codes = refl }
-
--- two and three bytes that a prefix leads are Short
-two-short : (p b1 : ℕ) → isPrefix p ≡ true → Meet (p ∷ b1 ∷ [])
-unfolding rowOf decodeOf chainOf
-two-short p b1 q = rw q
-
-three-short : (p b1 b2 : ℕ) → isPrefix p ≡ true → Meet (p ∷ b1 ∷ b2 ∷ [])
-unfolding rowOf decodeOf chainOf
-three-short p b1 b2 q = rw q
+-- fewer than four that a prefix leads are Short
+short-meets : (s : List ℕ) → eqb (length s) 0 ≡ false → ltb 4 (length s) ≡ false → ltb (length s) 4 ≡ true → isPrefix (first s) ≡ true → Meet s
+unfolding decodeOf chainOf
+short-meets s some most few q = rw (some, most, q, few)
 
 -- four bytes that the prefix p leads
 record Behind (p b1 b2 b3 : ℕ) : Type 0 where
-  pub plain-behind : but leads decoded (λ (b : ℕ). p ∷ b ∷ b2 ∷ b3 ∷ []) ≡ but leads decodeOf (λ (b : ℕ). p ∷ b ∷ b2 ∷ b3 ∷ [])
-  pub cb-behind : but every decoded (λ (b : ℕ). p ∷ 0xCB ∷ b2 ∷ b ∷ []) ≡ but every decodeOf (λ (b : ℕ). p ∷ 0xCB ∷ b2 ∷ b ∷ [])
-  pub ed-behind : but every decoded (λ (b : ℕ). p ∷ 0xED ∷ b ∷ b3 ∷ []) ≡ but every decodeOf (λ (b : ℕ). p ∷ 0xED ∷ b ∷ b3 ∷ [])
+  pub plain-behind : Codes leads (λ (b : ℕ). p ∷ b ∷ b2 ∷ b3 ∷ [])
+  pub cb-behind : Codes every (λ (b : ℕ). p ∷ 0xCB ∷ b2 ∷ b ∷ [])
+  pub ed-behind : Codes every (λ (b : ℕ). p ∷ 0xED ∷ b ∷ b3 ∷ [])
 
 dd-behind : (b1 b2 b3 : ℕ) → Behind 0xDD b1 b2 b3
 unfolding plain cb ed pageRow rowOf behindRow decodeOf chainOf prefixOf wholeOf wholeEd packed kindAt readKind instructionAt reg8At reg16At conditionAt indexed isHl renamed withAddr withHl changedOf besides bitsOf
@@ -120,19 +96,20 @@ fd-behind b1 b2 b3 = record { plain-behind = refl; cb-behind = refl; ed-behind =
 
 behind-meets : (p b1 b2 b3 : ℕ) → Behind p b1 b2 b3 → b1 < 256 → b2 < 256 → b3 < 256 → Meet (p ∷ b1 ∷ b2 ∷ b3 ∷ [])
 behind-meets p b1 b2 b3 codes h1 h2 h3 =
-    by-lead (λ (b : ℕ). Meet (p ∷ b ∷ b2 ∷ b3 ∷ [])) b1 (by-code every (λ (b : ℕ). p ∷ 0xCB ∷ b2 ∷ b ∷ []) (codes .cb-behind) b3 h3 refl)
-    (by-code every (λ (b : ℕ). p ∷ 0xED ∷ b ∷ b3 ∷ []) (codes .ed-behind) b2 h2 refl)
-    (λ e. by-code leads (λ (b : ℕ). p ∷ b ∷ b2 ∷ b3 ∷ []) (codes .plain-behind) b1 h1 e)
+    by-lead (λ (b : ℕ). Meet (p ∷ b ∷ b2 ∷ b3 ∷ [])) b1 (meets every (λ (b : ℕ). p ∷ 0xCB ∷ b2 ∷ b ∷ []) (codes .cb-behind) b3 h3 refl)
+    (meets every (λ (b : ℕ). p ∷ 0xED ∷ b ∷ b3 ∷ []) (codes .ed-behind) b2 h2 refl)
+    (λ e. meets leads (λ (b : ℕ). p ∷ b ∷ b2 ∷ b3 ∷ []) (codes .plain-behind) b1 h1 e)
 
 -- on one to four bytes the decoder gives what the table says
 pub decoder-agrees : (s : List ℕ) → AllBytes s → (length s ≡ 0 → ⊥) → length s ≤ 4 → decoded s ≡ decodeOf s
 decoder-agrees [] bytes some most = absurd (some refl)
-decoder-agrees (b0 ∷ []) bytes some most = one-meets b0 (bytes 0)
+decoder-agrees (b0 ∷ []) bytes some most =
+    by-prefix (λ (b : ℕ). Meet (b ∷ [])) b0 (short-meets _ refl refl refl refl) (short-meets _ refl refl refl refl) (page-meets _ bytes refl refl)
 decoder-agrees (b0 ∷ b1 ∷ []) bytes some most =
-    by-prefix (λ (b : ℕ). Meet (b ∷ b1 ∷ [])) b0 (two-short 0xDD b1 refl) (two-short 0xFD b1 refl) (by-page b0 b1 [] (two-codes b1) (bytes 0) (bytes 1))
+    by-prefix (λ (b : ℕ). Meet (b ∷ b1 ∷ [])) b0 (short-meets _ refl refl refl refl) (short-meets _ refl refl refl refl) (page-meets _ bytes refl refl)
 decoder-agrees (b0 ∷ b1 ∷ b2 ∷ []) bytes some most =
-    by-prefix (λ (b : ℕ). Meet (b ∷ b1 ∷ b2 ∷ [])) b0 (three-short 0xDD b1 b2 refl) (three-short 0xFD b1 b2 refl) (by-page b0 b1 (b2 ∷ []) (three-codes b1 b2) (bytes 0) (bytes 1))
+    by-prefix (λ (b : ℕ). Meet (b ∷ b1 ∷ b2 ∷ [])) b0 (short-meets _ refl refl refl refl) (short-meets _ refl refl refl refl) (page-meets _ bytes refl refl)
 decoder-agrees (b0 ∷ b1 ∷ b2 ∷ b3 ∷ []) bytes some most =
     by-prefix (λ (b : ℕ). Meet (b ∷ b1 ∷ b2 ∷ b3 ∷ [])) b0 (behind-meets 0xDD b1 b2 b3 (dd-behind b1 b2 b3) (bytes 1) (bytes 2) (bytes 3))
-    (behind-meets 0xFD b1 b2 b3 (fd-behind b1 b2 b3) (bytes 1) (bytes 2) (bytes 3)) (by-page b0 b1 (b2 ∷ b3 ∷ []) (four-codes b1 b2 b3) (bytes 0) (bytes 1))
+    (behind-meets 0xFD b1 b2 b3 (fd-behind b1 b2 b3) (bytes 1) (bytes 2) (bytes 3)) (page-meets _ bytes refl refl)
 decoder-agrees (b0 ∷ b1 ∷ b2 ∷ b3 ∷ b4 ∷ s) bytes some most = absurd (omega arith)
