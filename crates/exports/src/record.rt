@@ -1,22 +1,10 @@
 // The record of a row as bytes.
 ghost use mathlib.Core.Path.{_≡_};
-ghost use Rattle.table.specs.Decode.{numberOf, decodeOf};
+ghost use Rattle.table.specs.Decode.{decodeOf};
 ghost use Rattle.exports.specs.Record.{recordNumber, recordBytes};
+use answers::decodes::number;
 use disas::find;
 use layout::layout_row;
-use table::Answer;
-
-// Document 01's number of an answer.
-fn number(answer: Answer) -> u8
-    ensures { λ n. ⌜ n ≡ numberOf answer ⌝ }
-{
-    match answer {
-        Answer::Done => 0,
-        Answer::Nothing => 1,
-        Answer::Short => 2,
-        Answer::Long => 3,
-    }
-}
 
 // Decodes `ins` and, where that is Done and 22 bytes are lent, writes the record to the front of `out`.
 #[no_mangle]

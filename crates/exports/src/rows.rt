@@ -1,50 +1,10 @@
 // The rows of an image.
 ghost use mathlib.Core.Path.{_≡_};
-ghost use Prim.Native.Nat.{_≤_};
 ghost use Rattle.listing.specs.Answers.{numberOf, countOf, passedOver, rowAnswer, rowBytes};
-use listing::Listed;
+use answers::rows::counted;
+use answers::rows::number;
+use answers::rows::passed_over;
 use rom::row;
-
-// Document 01's number of an answer.
-fn number(listed: Listed) -> u8
-    ensures { λ n. ⌜ n ≡ numberOf listed ⌝ }
-{
-    match listed {
-        Listed::Done {
-            count: _,
-            passed: _,
-        } => 0,
-        Listed::ImageSize => 5,
-        Listed::Nothing => 1,
-        Listed::NoRoom => 4,
-    }
-}
-
-// The count of an answer, zero on a refusal.
-fn counted(listed: Listed) -> u32
-    requires { ⌜ countOf listed ≤ 58 ⌝ }
-    ensures { λ n. ⌜ n ≡ countOf listed ⌝ }
-{
-    match listed {
-        Listed::Done { count, passed: _ } => count as u32,
-        Listed::ImageSize => 0,
-        Listed::Nothing => 0,
-        Listed::NoRoom => 0,
-    }
-}
-
-// The bytes passed of an answer, zero on a refusal.
-fn passed_over(listed: Listed) -> u32
-    requires { ⌜ passedOver listed ≤ 4 ⌝ }
-    ensures { λ n. ⌜ n ≡ passedOver listed ⌝ }
-{
-    match listed {
-        Listed::Done { count: _, passed } => passed as u32,
-        Listed::ImageSize => 0,
-        Listed::Nothing => 0,
-        Listed::NoRoom => 0,
-    }
-}
 
 // The row at an address of the image, whose first byte stands at `origin`: its line to the front of `out`, the line's count
 // and the bytes passed.
@@ -63,7 +23,7 @@ pub extern "C" fn z80_row(
     ensures bytes { λ _. ⌜ now (out .exit) ≡ rowBytes (now (image .entry)) origin address (now (out .entry)) ⌝ }
 {
     let listed = row(image, origin, address, out);
-    *count = counted(listed);
-    *passed = passed_over(listed);
+    *count = counted(listed) as u32;
+    *passed = passed_over(listed) as u32;
     number(listed)
 }

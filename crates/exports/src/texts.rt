@@ -1,37 +1,10 @@
 // The texts of a row.
 ghost use mathlib.Core.Path.{_≡_};
-ghost use Prim.Native.Nat.{_≤_};
 ghost use Rattle.table.specs.Decode.{decodeOf};
 ghost use Rattle.wording.specs.Text.{plainText, fullText};
 ghost use Rattle.wording.specs.Answers.{numberOf, countOf, textAnswer, textBytes};
-use wording::Written;
-
-// Document 01's number of an answer.
-fn number(written: Written) -> u8
-    ensures { λ n. ⌜ n ≡ numberOf written ⌝ }
-{
-    match written {
-        Written::Done(_) => 0,
-        Written::Nothing => 1,
-        Written::Short => 2,
-        Written::Long => 3,
-        Written::NoRoom => 4,
-    }
-}
-
-// The count of an answer, zero on a refusal.
-fn counted(written: Written) -> u32
-    requires { ⌜ countOf written ≤ 52 ⌝ }
-    ensures { λ n. ⌜ n ≡ countOf written ⌝ }
-{
-    match written {
-        Written::Done(n) => n as u32,
-        Written::Nothing => 0,
-        Written::Short => 0,
-        Written::Long => 0,
-        Written::NoRoom => 0,
-    }
-}
+use answers::texts::counted;
+use answers::texts::number;
 
 // The plain text of `ins` to the front of `out`, and its count.
 #[no_mangle]
@@ -41,7 +14,7 @@ pub extern "C" fn z80_text(ins: &[u8], out: &mut [u8], count: &mut u32) -> u8
     ensures bytes { λ _. ⌜ now (out .exit) ≡ textBytes plainText (decodeOf (now (ins .entry))) (now (out .entry)) ⌝ }
 {
     let written = text::text(ins, out);
-    *count = counted(written);
+    *count = counted(written) as u32;
     number(written)
 }
 
@@ -53,6 +26,6 @@ pub extern "C" fn z80_full_text(ins: &[u8], out: &mut [u8], count: &mut u32) -> 
     ensures bytes { λ _. ⌜ now (out .exit) ≡ textBytes fullText (decodeOf (now (ins .entry))) (now (out .entry)) ⌝ }
 {
     let written = text::full_text(ins, out);
-    *count = counted(written);
+    *count = counted(written) as u32;
     number(written)
 }

@@ -96,7 +96,8 @@ pub fn map_check(image: &[u8], origin: u16, marks: &[u8], entries: &[u8]) -> Che
     }
     let over = first_over(marks);
     if over < marks.len() {
-        return Checked::MarkValue(origin + over as u16);
+        let address = origin + over as u16;
+        return Checked::MarkValue(address);
     }
     match first_entry(marks, origin, entries) {
         Entry::At(address) => Checked::EntryNotStart(address),

