@@ -1,12 +1,8 @@
-// How control goes on from a decoded row, and its next places.
+// How control goes on from a decoded row.
 ghost use mathlib.Core.Path.{_≡_};
-ghost use Rattle.marking.specs.Links.{after as afterOf, to as toOf, links as linksOf, listed};
-ghost use Rattle.flow.specs.Flow.{relativeTo, leadBy, leadOf, named, led, returnBy, flowBy, flowOf, viewOf};
+ghost use Rattle.flow.specs.Flow.{relativeTo, leadBy, leadOf, toward as towardOf, named as namedOf, led as ledOf, returnBy, flowBy, flowOf, viewOf};
 use marking::Flow;
-use marking::Link;
-use marking::Links;
 use marking::View;
-use marking::Word;
 use opcode::instruction::Instruction;
 use opcode::operand::Operand;
 use opcode::operand::Place;
@@ -20,6 +16,15 @@ pub enum Lead {
     Condition,
     Target(u16),
     Neither,
+}
+
+// How a row goes on to a target.
+pub enum Way {
+    Jump,
+    Branch,
+    Call,
+    CallIf,
+    Restart,
 }
 
 // A relative target: the row's address plus the operand. The bits of an operand below zero, turned over, are how far it is below -1.
@@ -53,56 +58,37 @@ fn lead_of(address: u16, place: Place) -> Lead
     }
 }
 
-// JP, JR: to the target, or with a condition there or on.
-fn jump(x: Lead, y: Lead) -> Flow
-    ensures { λ f. ⌜ f ≡ led Flow.Jump Flow.Branch x y ⌝ }
+// To a target, by such a way.
+fn toward(way: Way, target: u16) -> Flow
+    ensures { λ f. ⌜ f ≡ towardOf way target ⌝ }
 {
-    match x {
-        Lead::Target(t) => Flow::Jump(t),
-        Lead::Condition => branch(y),
-        Lead::Neither => Flow::RegisterJump,
+    match way {
+        Way::Jump => Flow::Jump(target),
+        Way::Branch => Flow::Branch(target),
+        Way::Call => Flow::Call(target),
+        Way::CallIf => Flow::CallIf(target),
+        Way::Restart => Flow::Restart(target),
     }
 }
 
-// To the target or on.
-fn branch(x: Lead) -> Flow
-    ensures { λ f. ⌜ f ≡ named Flow.Branch x ⌝ }
+// To the target that an operand names; where it names none, to a place that the row does not name.
+fn named(way: Way, x: Lead) -> Flow
+    ensures { λ f. ⌜ f ≡ namedOf (towardOf way) x ⌝ }
 {
     match x {
-        Lead::Target(t) => Flow::Branch(t),
+        Lead::Target(t) => toward(way, t),
         Lead::Condition => Flow::RegisterJump,
         Lead::Neither => Flow::RegisterJump,
     }
 }
 
-// CALL.
-fn call(x: Lead, y: Lead) -> Flow
-    ensures { λ f. ⌜ f ≡ led Flow.Call Flow.CallIf x y ⌝ }
+// With a condition the target is the second operand.
+fn led(always: Way, when: Way, x: Lead, y: Lead) -> Flow
+    ensures { λ f. ⌜ f ≡ ledOf (towardOf always) (towardOf when) x y ⌝ }
 {
     match x {
-        Lead::Target(t) => Flow::Call(t),
-        Lead::Condition => call_if(y),
-        Lead::Neither => Flow::RegisterJump,
-    }
-}
-
-fn call_if(x: Lead) -> Flow
-    ensures { λ f. ⌜ f ≡ named Flow.CallIf x ⌝ }
-{
-    match x {
-        Lead::Target(t) => Flow::CallIf(t),
-        Lead::Condition => Flow::RegisterJump,
-        Lead::Neither => Flow::RegisterJump,
-    }
-}
-
-// RST.
-fn restart(x: Lead) -> Flow
-    ensures { λ f. ⌜ f ≡ named Flow.Restart x ⌝ }
-{
-    match x {
-        Lead::Target(t) => Flow::Restart(t),
-        Lead::Condition => Flow::RegisterJump,
+        Lead::Target(t) => toward(always, t),
+        Lead::Condition => named(when, y),
         Lead::Neither => Flow::RegisterJump,
     }
 }
@@ -123,11 +109,11 @@ fn flow_by(ins: Instruction, x: Lead, y: Lead) -> Flow
     ensures { λ f. ⌜ f ≡ flowBy ins x y ⌝ }
 {
     match ins {
-        Instruction::JP => jump(x, y),
-        Instruction::JR => jump(x, y),
-        Instruction::DJNZ => branch(x),
-        Instruction::CALL => call(x, y),
-        Instruction::RST => restart(x),
+        Instruction::JP => led(Way::Jump, Way::Branch, x, y),
+        Instruction::JR => led(Way::Jump, Way::Branch, x, y),
+        Instruction::DJNZ => named(Way::Branch, x),
+        Instruction::CALL => led(Way::Call, Way::CallIf, x, y),
+        Instruction::RST => named(Way::Restart, x),
         Instruction::RET => return_by(x),
         Instruction::RETI => Flow::Return,
         Instruction::RETN => Flow::Return,
@@ -163,40 +149,5 @@ pub fn view(address: u16, decoded: Decoded) -> View
     match answer {
         Answer::Done => View::Row(length.0, flow(address, rec)),
         _ => View::Refused,
-    }
-}
-
-// To the place after a row of so many bytes.
-fn after(address: u16, length: u8) -> Link
-    ensures { λ x. ⌜ x ≡ afterOf address length ⌝ }
-{
-    Link {
-        word: Word::After,
-        place: wrapping_add_u16(address, length as u16),
-    }
-}
-
-fn to(word: Word, place: u16) -> Link
-    ensures { λ x. ⌜ x ≡ toOf word place ⌝ }
-{
-    Link { word, place }
-}
-
-// The links of a row of so many bytes at an address, in the order after, jump, call, restart.
-pub fn links(address: u16, length: u8, flow: Flow) -> Links
-    ensures { λ r. ⌜ listed r ≡ linksOf address length flow ⌝ }
-{
-    let on = after(address, length);
-    match flow {
-        Flow::After => Links::One(on),
-        Flow::Jump(t) => Links::One(to(Word::Jump, t)),
-        Flow::Branch(t) => Links::Two(on, to(Word::Jump, t)),
-        Flow::Call(t) => Links::Two(on, to(Word::Call, t)),
-        Flow::CallIf(t) => Links::Two(on, to(Word::Call, t)),
-        Flow::Restart(t) => Links::Two(on, to(Word::Restart, t)),
-        Flow::Return => Links::None,
-        Flow::ReturnIf => Links::One(on),
-        Flow::RegisterJump => Links::None,
-        Flow::Repeat => Links::Two(on, to(Word::Jump, address)),
     }
 }

@@ -1,8 +1,8 @@
 -- `after` meets its contract. Assumes nothing.
 use mathlib.Core.Path.{refl}
 use borrow.Author.Needs.{needs}
-use Rattle.flow.proofs.after.Statement.{statement}
-use Rattle.flow.proofs.after.Tie as tie
+use Rattle.links.proofs.after.Statement.{statement}
+use Rattle.links.proofs.after.Tie as tie
 
 returns : tie.Need-returns
 returns c = rw (c .wrapping-add-u16 .ensures) refl

@@ -1,8 +1,8 @@
 -- `links` meets its contract: each arm knows how control goes on. Assumes nothing.
 use mathlib.Core.Path.{refl}
 use borrow.Author.Needs.{needs}
-use Rattle.flow.proofs.links.Statement.{statement}
-use Rattle.flow.proofs.links.Tie as tie
+use Rattle.links.proofs.links.Statement.{statement}
+use Rattle.links.proofs.links.Tie as tie
 
 returns : tie.Need-returns
 returns c = rw (c .enum-told .given .1) (rw (c .before .before .after .ensures) refl)
