@@ -1,18 +1,18 @@
 -- `write` meets its contract: each arm knows the decoder's answer. Assumes nothing.
 use mathlib.Core.Path.{refl}
 use denote.Ref.{now}
-use Rattle.text.proofs.Room.{text-most}
+use Rattle.text.proofs.Room.{all-given}
 use borrow.Author.Needs.{needs}
 use Rattle.text.proofs.write.Statement.{statement}
 use Rattle.text.proofs.write.Tie as tie
 
-give-chosen-requires : tie.Need-give-chosen-requires
-give-chosen-requires c κs =
-    let d = c .before .before .before .before .disas .ensures in
-    rw d (text-most (c .before .before .before .before .before .before .before .args .full) (now (c .before .before .before .before .before .before .before .args .ins)) (λ k. c .before .before .before .before .before .before .shared-slice-known .given k .fits) (rw d at (c .before .enum-told .given .1)))
-
 returns : tie.Need-returns
-returns c = rw (← c .before .before .before .before .before .before .before .disas .ensures, c .before .before .before .before .enum-told .given .1) (c .before .before .give-chosen .ensures)
+returns c =
+    let s = c .before .before .before .before .before .before .before .before .before .before .args in
+    let d = c .before .before .before .before .before .before .before .disas .ensures in
+    let done = c .before .before .before .before .enum-told .given .1 in
+    let given = all-given (s .full) (now (s .ins)) (λ k. c .before .before .before .before .before .before .before .before .before .shared-slice-known .given k .fits) (rw d at done) in
+    rw (← d, done) (rw (rw (← d) at given) at (c .before .before .give-chosen .ensures))
 
 returns-2 : tie.Need-returns-2
 returns-2 c = rw (← c .before .before .before .disas .ensures, c .enum-told2 .given .1) (refl, refl)
@@ -29,7 +29,7 @@ write-spec =
     (tie.spec
     (λ c κs. search needs)
     (λ c. search needs)
-    give-chosen-requires
+    (λ c κs. search needs)
     (λ c. search needs)
     (λ c. search needs)
     (λ c. search needs)

@@ -1,7 +1,7 @@
 -- `put_chosen` meets its contract: the test is the choice. Assumes nothing.
 use borrow.Author.Needs.{needs}
-use Rattle.text.proofs.put_chosen.Statement.{statement}
-use Rattle.text.proofs.put_chosen.Tie as tie
+use Rattle.whole_text.proofs.put_chosen.Statement.{statement}
+use Rattle.whole_text.proofs.put_chosen.Tie as tie
 
 returns : tie.Need-returns
 returns c = rw (c .before .before .before .before .if1 .taken) (c .before .before .put-full-text .ensures)
