@@ -3,8 +3,8 @@ use mathlib.Core.Path.{_≡_, ap, _∙_}
 use Prim.Native.Nat.{ℕ, _*_, _%_}
 use native.Mathlib.Omega.{arith}
 use lib.Bits.{bitOr, or-shifted}
-use Rattle.packed.proofs.numbers.word.Statement.{statement}
-use Rattle.packed.proofs.numbers.word.Tie as tie
+use Rattle.from_bytes.proofs.word.Statement.{statement}
+use Rattle.from_bytes.proofs.word.Tie as tie
 
 -- eight places to the left no bit is lost
 shifted : (c : tie.Start) → (c .args .high * 256) % 65536 ≡ c .args .high * 256

@@ -7,9 +7,9 @@ use mir.Syntax.{w8, w16}
 use mir.Val.{SFits}
 use mir.ValLaws.{toZ-ofZ}
 use Rattle.table.specs.Signed.{relativeOf}
-use Rattle.packed.proofs.Integers.{mag-plus}
-use Rattle.packed.proofs.numbers.relative.Statement.{statement}
-use Rattle.packed.proofs.numbers.relative.Tie as tie
+use Rattle.from_bytes.proofs.Integers.{plus-fits}
+use Rattle.from_bytes.proofs.relative.Statement.{statement}
+use Rattle.from_bytes.proofs.relative.Tie as tie
 
 signed-requires : tie.Need-signed-requires
 signed-requires c κs = search needs
@@ -22,9 +22,7 @@ cast-result : tie.Need-cast-result
 cast-result c = rw (toZ-ofZ w8 (c .signed .result) (ok c)) (record { sfits = omega (arith, c .signed .ok) })
 
 add-result : tie.Need-add-result
-add-result c =
-    rw (toZ-ofZ w16 _ (cast-result c), toZ-ofZ w8 (c .signed .result) (ok c))
-    (record { sfits = omega (arith, c .signed .ok, mag-plus (c .signed .result) 2) })
+add-result c = rw (toZ-ofZ w16 _ (cast-result c), toZ-ofZ w8 (c .signed .result) (ok c)) (plus-fits (ok c) (omega arith))
 
 returns : tie.Need-returns
 unfolding relativeOf

@@ -9,9 +9,9 @@ use mir.Syntax.{w8, w16}
 use mir.Val.{toZ}
 use mir.ValLaws.{toZ-pos, toZ-ofZ}
 use Rattle.table.specs.Signed.{signedOf}
-use Rattle.packed.proofs.Integers.{less, wide}
-use Rattle.packed.proofs.numbers.signed.Statement.{statement}
-use Rattle.packed.proofs.numbers.signed.Tie as tie
+use Rattle.from_bytes.proofs.Integers.{less, wide}
+use Rattle.from_bytes.proofs.signed.Statement.{statement}
+use Rattle.from_bytes.proofs.signed.Tie as tie
 
 -- the byte less 256, as the machine has it
 low : (c : tie.Else1) → toZ w16 (c .before .args .b) -ℤ pos 256 ≡ negsuc (256 - suc (c .before .args .b))

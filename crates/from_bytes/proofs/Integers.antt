@@ -7,8 +7,8 @@ use lib.Dec.{ltb}
 use lib.Signed.{mag}
 use lib.IntN.{ℤ, pos, negsuc, _+ℤ_}
 use borrow.Author.Tests.{lt-ltb}
-use mir.Syntax.{w16}
-use mir.Val.{toZ}
+use mir.Syntax.{w8, w16}
+use mir.Val.{toZ, SFits}
 use mir.ValLaws.{toZ-pos}
 
 -- a − (k + 1) below zero
@@ -27,3 +27,7 @@ mag-plus (negsuc n) k = by-test (ltb k (suc n)) (suc n - suc k) (k - suc n) (ome
     by-test : (t : Bool) (x y : ℕ) → x ≤ n + k → y ≤ n + k → mag (cond t (negsuc x) (pos y)) ≤ n + k
     by-test true x y p q = p
     by-test false x y p q = q
+
+-- a number of 8 bits and a byte more fit 16
+pub plus-fits : {z : ℤ} {k : ℕ} → SFits w8 z → k < 256 → SFits w16 (z +ℤ pos k)
+plus-fits {z} {k} h b = record { sfits = omega (arith, h .sfits, mag-plus z k) }
