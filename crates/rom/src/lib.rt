@@ -1,8 +1,4 @@
-// What stands above the decoder and relies on its promise alone: the rows of an image, and the check of its map.
-mod lines;
-mod map;
-mod window;
-
+// The upper crate, which relies on the decoder's promise alone: the rows of an image, and the check of its map.
 pub use lines::row;
 pub use lines::rows;
 pub use map::map_check;

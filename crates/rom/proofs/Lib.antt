@@ -1,4 +1,0 @@
-pub mod Inside
-pub mod Other
-pub mod Filling
-pub mod Named
