@@ -4,8 +4,7 @@ ghost use Rattle.marking.specs.Rules.{chart};
 ghost use Rattle.marking.specs.Verdict.{numberOf, addressOf, Verdict};
 ghost use Rattle.marking.specs.Check.{checkOf};
 ghost use Rattle.flow.specs.Flow.{lookOf};
-use answers::maps::broken_at;
-use answers::maps::number;
+use answers::maps::tell;
 use rom::map_check;
 
 // Whether a map meets the marking rules: the marks of an image, whose first byte stands at `origin`, and the entries, byte
@@ -23,6 +22,7 @@ pub extern "C" fn z80_map_check(
     ensures rules { λ n. ⌜ Verdict lookOf (chart (now (image .entry)) origin (now (marks .entry))) (now (entries .entry)) n (now (address .exit)) ⌝ }
 {
     let checked = map_check(image, origin, marks, entries);
-    *address = broken_at(checked);
-    number(checked)
+    let told = tell(checked);
+    *address = told.at as u32;
+    told.number
 }

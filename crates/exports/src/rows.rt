@@ -1,9 +1,7 @@
 // The rows of an image.
 ghost use mathlib.Core.Path.{_≡_};
 ghost use Rattle.listing.specs.Answers.{numberOf, countOf, passedOver, rowAnswer, rowBytes};
-use answers::rows::counted;
-use answers::rows::number;
-use answers::rows::passed_over;
+use answers::rows::tell;
 use rom::row;
 
 // The row at an address of the image, whose first byte stands at `origin`: its line to the front of `out`, the line's count
@@ -23,7 +21,8 @@ pub extern "C" fn z80_row(
     ensures bytes { λ _. ⌜ now (out .exit) ≡ rowBytes (now (image .entry)) origin address (now (out .entry)) ⌝ }
 {
     let listed = row(image, origin, address, out);
-    *count = counted(listed) as u32;
-    *passed = passed_over(listed) as u32;
-    number(listed)
+    let told = tell(listed);
+    *count = told.count as u32;
+    *passed = told.passed as u32;
+    told.number
 }

@@ -3,8 +3,7 @@ ghost use mathlib.Core.Path.{_≡_};
 ghost use Rattle.table.specs.Decode.{decodeOf};
 ghost use Rattle.wording.specs.Text.{plainText, fullText};
 ghost use Rattle.wording.specs.Answers.{numberOf, countOf, textAnswer, textBytes};
-use answers::texts::counted;
-use answers::texts::number;
+use answers::texts::tell;
 
 // The plain text of `ins` to the front of `out`, and its count.
 #[no_mangle]
@@ -14,8 +13,9 @@ pub extern "C" fn z80_text(ins: &[u8], out: &mut [u8], count: &mut u32) -> u8
     ensures bytes { λ _. ⌜ now (out .exit) ≡ textBytes plainText (decodeOf (now (ins .entry))) (now (out .entry)) ⌝ }
 {
     let written = text::text(ins, out);
-    *count = counted(written) as u32;
-    number(written)
+    let told = tell(written);
+    *count = told.count as u32;
+    told.number
 }
 
 // The full text of `ins` to the front of `out`, and its count.
@@ -26,6 +26,7 @@ pub extern "C" fn z80_full_text(ins: &[u8], out: &mut [u8], count: &mut u32) -> 
     ensures bytes { λ _. ⌜ now (out .exit) ≡ textBytes fullText (decodeOf (now (ins .entry))) (now (out .entry)) ⌝ }
 {
     let written = text::full_text(ins, out);
-    *count = counted(written) as u32;
-    number(written)
+    let told = tell(written);
+    *count = told.count as u32;
+    told.number
 }
