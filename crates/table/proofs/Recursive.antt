@@ -46,15 +46,13 @@ module _ (b2 b3 : ℕ) (d : List ℕ) where
 
   ed-lines : (i : Index) → map (λ (x : Row). behind (restEd x) i 0xED b2 b3 d) ed ≡ map (λ (x : Row). recordOf (prefixRow i (ed-behind x)) (b2 ∷ b3 ∷ []) d) ed
   unfolding ed mayInsert mayRemove insertOf removeOf inserted removed
-  ed-lines ix = refl
-  ed-lines iy = refl
+  ed-lines i = refl
 
   plain-lines :
       (i : Index) → values (λ (b1 : ℕ). cond (eqb b1 0xED) emptyOf (behind (rest b1) i b1 b2 b3 d)) 0 256
       ≡ values (λ (b1 : ℕ). cond (eqb b1 0xED) emptyOf (recordOf (behindRow i b1 b2 b3) (b2 ∷ b3 ∷ []) d)) 0 256
   unfolding plain step pageRow behindRow mayInsert mayRemove insertOf removeOf inserted removed
-  plain-lines ix = refl
-  plain-lines iy = refl
+  plain-lines i = refl
 
   ed-agrees : (i : Index) → behind (restEd (getD ed b2 gap)) i 0xED b2 b3 d ≡ recordOf (prefixRow i (ed-behind (getD ed b2 gap))) (b2 ∷ b3 ∷ []) d
   unfolding mayInsert insertOf inserted
