@@ -14,7 +14,7 @@ use Rattle.opcode.specs.declared.record.OpCode.{OpCode}
 use Rattle.opcode.specs.Record.{unfilled, six, sum}
 use Rattle.table.specs.declared.Answer.{Answer}
 use Rattle.table.specs.declared.Decoded.{Decoded}
-use Rattle.table.specs.Row.{ix, iy, Kind, none, Cycles, Row, row, gap, t1, states}
+use Rattle.table.specs.Row.{Kind, none, Cycles, Row, row, gap, t1, states}
 use Rattle.table.specs.Departures.{oneFigure, needed, neededBehind}
 use Rattle.table.specs.Plain.{plain}
 use Rattle.table.specs.Cb.{cb}
@@ -49,8 +49,8 @@ all-sized =
       on-plain = tt;
       on-cb = tt;
       on-ed = tt;
-      behind-plain = λ i. elim i [ ix ↦ tt | iy ↦ tt ];
-      behind-ed = λ i. elim i [ ix ↦ tt | iy ↦ tt ];
+      behind-plain = λ i. tt;
+      behind-ed = λ i. tt;
       load = λ i. tt;
       no-bit = λ i. tt;
       on-bit = λ i. tt;
