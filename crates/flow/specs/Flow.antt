@@ -14,7 +14,6 @@ use Rattle.marking.specs.declared.View.{View}
 use Rattle.marking.specs.Links.{wrap}
 use Rattle.marking.specs.Rules.{Look}
 use Rattle.flow.specs.declared.Lead.{Lead}
-use Rattle.flow.specs.declared.Way.{Way}
 
 -- addresses count modulo 65,536; `negsuc n` is -(n + 1)
 abbrev pub wrapℤ : ℤ → ℕ
@@ -43,14 +42,6 @@ leadBy a Operand.IgnoreIO = Lead.Neither
 abbrev pub leadOf : ℕ → Place → Lead
 leadOf a Place.Empty = Lead.Neither
 leadOf a (Place.Of o) = leadBy a o
-
--- to a target, by such a way
-abbrev pub toward : Way → ℕ → Flow
-toward Way.Jump t = Flow.Jump t
-toward Way.Branch t = Flow.Branch t
-toward Way.Call t = Flow.Call t
-toward Way.CallIf t = Flow.CallIf t
-toward Way.Restart t = Flow.Restart t
 
 -- to the target that an operand names; where it names none, to a place that the row does not name
 abbrev pub named : (ℕ → Flow) → Lead → Flow
