@@ -12,7 +12,8 @@ use Rattle.opcode.specs.declared.timing.Edited.{Edited}
 use Rattle.opcode.specs.declared.record.OpCode.{OpCode}
 use Rattle.opcode.specs.Record.{unfilled, six}
 use Rattle.opcode.specs.Timing.{filled, listed, Formed, inserted, removed, timed, no, yes, mayInsert, mayExtend, mayRemove, insertOf, extendOf, pushOf, removeOf}
-use Rattle.timing.proofs.Laws.{extended, room, one-filled}
+use Rattle.timing.specs.Splice.{spliced, maySplice, spliceOf}
+use Rattle.timing.proofs.Laws.{room, inserting, removing, extended}
 
 -- six places hold a short list and zeros
 pad : (l : List TStates) → length l ≤ 6 → take (length l) (six l) ≡ l
@@ -41,16 +42,19 @@ module _ (r : OpCode) (places : length (r .tstates) ≡ 6) where
   fill : r .mcycles .0 ≤ 6 → length (filled r) ≡ r .mcycles .0
   fill h = length-take-le (r .mcycles .0) (r .tstates) (omega (arith, places))
 
+  splice-formed : (pos out : ℕ) (s : List TStates) (n : ℕ) → length s ≡ 6 → spliceOf r pos out s n .ok ≡ true → Formed (spliceOf r pos out s n .rec)
+  unfolding spliceOf spliced
+  splice-formed pos out s n those =
+      formed (maySplice (r .mcycles .0) pos out n) r (spliced (filled r) pos out (take n s)) (r .mcycles .0 + n - out) (λ e.
+      let h = room (r .mcycles .0) pos out n e in
+      let l1 : length (take pos (filled r)) ≡ pos = length-take-le pos (filled r) (omega (arith, h, fill (h .0))) in
+      let l2 : length (take n s) ≡ n = length-take-le n s (omega (arith, h, those)) in
+      timed-formed r (spliced (filled r) pos out (take n s)) (r .mcycles .0 + n - out)
+      (length-append (take pos (filled r)) (take n s ++ drop (pos + out) (filled r)) ∙ omega (arith, length-append (take n s) (drop (pos + out) (filled r)), length-drop (pos + out) (filled r), fill (h .0), h, l1, l2))
+      (omega (arith, h)))
+
   pub insert-formed : (pos : ℕ) (x : Timing) → length (x .tstates) ≡ 6 → insertOf r pos x .ok ≡ true → Formed (insertOf r pos x .rec)
-  unfolding insertOf inserted
-  insert-formed pos x those =
-      formed (mayInsert (r .mcycles .0) pos (x .mcycles .0)) r (inserted (filled r) pos (listed x)) (r .mcycles .0 + x .mcycles .0) (λ e.
-      let h = room (r .mcycles .0) pos (x .mcycles .0) e in
-      let l1 : length (take pos (filled r)) ≡ pos = length-take-le pos (filled r) (omega (arith, fill (h .0))) in
-      let l2 : length (listed x) ≡ x .mcycles .0 = length-take-le (x .mcycles .0) (x .tstates) (omega (arith, those)) in
-      timed-formed r (inserted (filled r) pos (listed x)) (r .mcycles .0 + x .mcycles .0)
-      (length-append (take pos (filled r)) (listed x ++ drop pos (filled r)) ∙ omega (arith, length-append (listed x) (drop pos (filled r)), length-drop pos (filled r), fill (h .0), l1, l2))
-      (h .2))
+  insert-formed pos x those = subst (λ (e : Edited). e .ok ≡ true → Formed (e .rec)) (inserting r pos x) (splice-formed pos 0 (x .tstates) (x .mcycles .0) those)
 
   pub extend-formed : (x : Timing) → length (x .tstates) ≡ 6 → extendOf r x .ok ≡ true → Formed (extendOf r x .rec)
   extend-formed x those = subst (λ (e : Edited). e .ok ≡ true → Formed (e .rec)) (extended r x) (insert-formed (r .mcycles .0) x those)
@@ -60,14 +64,7 @@ module _ (r : OpCode) (places : length (r .tstates) ≡ 6) where
   push-formed t = extend-formed (record { tstates = t ∷ unfilled ∷ unfilled ∷ unfilled ∷ unfilled ∷ unfilled ∷ []; mcycles = record { 0 = 1 } }) refl
 
   pub remove-formed : (pos : ℕ) → removeOf r pos .ok ≡ true → Formed (removeOf r pos .rec)
-  unfolding removeOf removed
-  remove-formed pos =
-      formed (mayRemove (r .mcycles .0) pos) r (removed (filled r) pos) (r .mcycles .0 - 1) (λ e.
-      let h = one-filled (r .mcycles .0) pos e in
-      let l1 : length (take pos (filled r)) ≡ pos = length-take-le pos (filled r) (omega (arith, fill (h .0))) in
-      timed-formed r (removed (filled r) pos) (r .mcycles .0 - 1)
-      (length-append (take pos (filled r)) (drop (pos + 1) (filled r)) ∙ omega (arith, length-drop (pos + 1) (filled r), fill (h .0), l1))
-      (omega (arith, h .0)))
+  remove-formed pos = subst (λ (e : Edited). e .ok ≡ true → Formed (e .rec)) (removing r pos (six [])) (splice-formed pos 1 (six []) 0 refl)
 
 pub insert-kept : (r : OpCode) (pos : ℕ) (x : Timing) → insertOf r pos x .ok ≡ false → insertOf r pos x .rec ≡ r
 unfolding insertOf

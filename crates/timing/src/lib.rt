@@ -3,57 +3,39 @@
 mod places;
 
 ghost use mathlib.Core.Path.{_≡_};
+ghost use Prim.Native.Nat.{_≤_};
 ghost use Rattle.opcode.specs.Timing.{insertOf, extendOf, pushOf, removeOf};
+ghost use Rattle.timing.specs.Splice.{spliceOf};
 use opcode::counts::MCycles;
 use opcode::counts::TStates;
 use opcode::record::OpCode;
 use opcode::timing::Edited;
 use opcode::timing::Timing;
-use places::may_insert;
-use places::may_remove;
-use places::with_inserted;
-use places::with_removed;
+use places::may_splice;
+use places::with_spliced;
 
 // The record with `more` put in before place pos, from 0 to the count.
 pub fn tstates_insert(rec: OpCode, pos: usize, more: Timing) -> Edited
     ensures { λ r. ⌜ r ≡ insertOf rec pos more ⌝ }
 {
-    let held = rec.mcycles;
-    let added = more.mcycles;
-    let m = held.0 as usize;
-    let n = added.0 as usize;
-    if !may_insert(m, pos, n) {
-        return Edited { ok: false, rec };
-    }
-    let old = rec.tstates;
-    let new = more.tstates;
-    let places = with_inserted(old, m, pos, new, n);
-    let count = MCycles((m + n) as u8);
-    let mut next = rec;
-    next.tstates = places;
-    next.mcycles = count;
-    Edited {
-        ok: true,
-        rec: next,
-    }
+    let s = more.tstates;
+    splice(rec, pos, 0, s, more.mcycles.0 as usize)
 }
 
 // The record with `more` behind its filled places.
 pub fn tstates_extend(rec: OpCode, more: Timing) -> Edited
     ensures { λ r. ⌜ r ≡ extendOf rec more ⌝ }
 {
-    let held = rec.mcycles;
-    let m = held.0 as usize;
+    let m = rec.mcycles.0 as usize;
     tstates_insert(rec, m, more)
 }
 
-// The record with one machine cycle more.
+// The record with one machine cycle more: of the six places only the first counts.
 pub fn tstates_push(rec: OpCode, t: TStates) -> Edited
     ensures { λ r. ⌜ r ≡ pushOf rec t ⌝ }
 {
-    let none = TStates(0);
     let more = Timing {
-        tstates: [t, none, none, none, none, none],
+        tstates: [t; 6],
         mcycles: MCycles(1),
     };
     tstates_extend(rec, more)
@@ -63,19 +45,22 @@ pub fn tstates_push(rec: OpCode, t: TStates) -> Edited
 pub fn tstates_remove(rec: OpCode, pos: usize) -> Edited
     ensures { λ r. ⌜ r ≡ removeOf rec pos ⌝ }
 {
-    let held = rec.mcycles;
-    let m = held.0 as usize;
-    if !may_remove(m, pos) {
-        return Edited { ok: false, rec };
+    splice(rec, pos, 1, [TStates(0); 6], 0)
+}
+
+// The one edit behind the four: the record with the first n of s in for `out` places from pos.
+fn splice(mut rec: OpCode, pos: usize, out: usize, s: [TStates; 6], n: usize) -> Edited
+    requires { ⌜ out ≤ 6 ⌝ }
+    ensures { λ r. ⌜ r ≡ spliceOf rec pos out s n ⌝ }
+{
+    let m = rec.mcycles.0 as usize;
+    if may_splice(m, pos, out, n) {
+        let old = rec.tstates;
+        let places = with_spliced(old, m, pos, out, s, n);
+        let count = (m + n - out) as u8;
+        rec.tstates = places;
+        rec.mcycles.0 = count;
+        return Edited { ok: true, rec };
     }
-    let old = rec.tstates;
-    let places = with_removed(old, m, pos);
-    let count = MCycles((m - 1) as u8);
-    let mut next = rec;
-    next.tstates = places;
-    next.mcycles = count;
-    Edited {
-        ok: true,
-        rec: next,
-    }
+    Edited { ok: false, rec }
 }

@@ -12,7 +12,7 @@ tstates-insert-requires : tie.Need-tstates-insert-requires
 tstates-insert-requires c κs = search needs
 
 returns : tie.Need-returns
-returns c = let a = c .before .before .before .args in c .tstates-insert .ensures ∙ extended (a .rec) (a .more)
+returns c = let a = c .before .before .args in c .tstates-insert .ensures ∙ extended (a .rec) (a .more)
 
 pub tstates-extend-spec : {M : Type 1} → statement M
 tstates-extend-spec = tie.close (tie.spec cast-m tstates-insert-requires returns)
