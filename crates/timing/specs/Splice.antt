@@ -1,4 +1,4 @@
--- The one edit behind the four: at place pos of a record's filled places some go out and others come in. Definitions only.
+-- The one edit behind the four: at place pos of a record's filled places some go out and others come in. No promise rests on this file: the edits are proved to be those of `opcode`. Definitions only.
 use Prim.Native.Nat.{ℕ, _+_, _-_}
 use mathlib.Core.Bool.{Bool, cond, _&&_}
 use mathlib.Core.List.{List, _++_}
