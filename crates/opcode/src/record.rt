@@ -1,7 +1,8 @@
 // The record of a decoded row.
 ghost use mathlib.Core.Path.{_≡_};
-ghost use Prim.Native.Nat.{_+_, _≤_};
-ghost use Rattle.opcode.specs.Record.{emptyOf, sum, timeOf};
+ghost use Prim.Native.Nat.{_≤_, _<_};
+ghost use lib.ListN.{getD};
+ghost use Rattle.opcode.specs.Record.{emptyOf, unfilled, sum, timeOf};
 use super::counts::Bytes;
 use super::counts::MCycles;
 use super::counts::RowTime;
@@ -60,18 +61,14 @@ impl OpCode {
 fn total(t: [TStates; 6]) -> u16
     ensures { λ r. ⌜ r ≡ sum t ⌝ }
 {
-    let a = t[0];
-    let b = t[1];
-    let c = t[2];
-    let d = t[3];
-    let e = t[4];
-    let f = t[5];
-    three(a, b, c) + three(d, e, f)
+    at(t, 0) + at(t, 1) + at(t, 2) + at(t, 3) + at(t, 4) + at(t, 5)
 }
 
-// The sum of three.
-fn three(a: TStates, b: TStates, c: TStates) -> u16
-    ensures { λ r. ⌜ (r ≡ a .0 + b .0 + c .0) × (r ≤ 765) ⌝ }
+// Place k, as a number.
+fn at(t: [TStates; 6], k: usize) -> u16
+    requires { ⌜ k < 6 ⌝ }
+    ensures { λ r. ⌜ (r ≡ getD t k unfilled .0) × (r ≤ 255) ⌝ }
 {
-    (a.0 as u16) + (b.0 as u16) + (c.0 as u16)
+    let x = t[k];
+    x.0 as u16
 }

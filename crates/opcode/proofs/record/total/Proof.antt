@@ -1,4 +1,5 @@
--- `total` meets its contract: the sums of three fit, and together are that of the list. Assumes nothing.
+-- `total` meets its contract: six places of at most 255 fit, and their sum is that of the list. Assumes nothing.
+use native.Mathlib.Omega.{arith}
 use borrow.Author.Needs.{needs}
 use Rattle.opcode.proofs.Sum.{sum-six}
 use Rattle.opcode.proofs.record.total.Statement.{statement}
@@ -6,21 +7,23 @@ use Rattle.opcode.proofs.record.total.Tie as tie
 
 returns : tie.Need-returns
 returns c =
-    let b = c .before .before .before .before .before .before .before .before in
-    rw (c .before .three .ensures .0, c .three2 .ensures .0) (sum-six (b .args .t1) (b .good .0 .1 .0 .1))
+    let b = c .before .before .before .before .before .before in
+    omega (arith, sum-six (b .args .t) (b .good .0 .1 .0 .1))
 
--- six reads, two calls, one sum
+-- six calls, five sums
 pub total-spec : {M : Type 1} → statement M
 total-spec =
     tie.close
     (tie.spec
-    (λ c. search needs)
-    (λ c. search needs)
-    (λ c. search needs)
-    (λ c. search needs)
-    (λ c. search needs)
+    (λ c κs. search needs)
+    (λ c κs. search needs)
     (λ c. search needs)
     (λ c κs. search needs)
+    (λ c. search needs)
+    (λ c κs. search needs)
+    (λ c. search needs)
+    (λ c κs. search needs)
+    (λ c. search needs)
     (λ c κs. search needs)
     (λ c. search needs)
     returns)
