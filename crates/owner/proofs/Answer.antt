@@ -2,7 +2,6 @@
 -- Assumes nothing.
 use mathlib.Core.Path.{refl}
 use denote.Struct.Laws as LL
-use Rattle.owner.specs.declared.Twice.{Twice}
 use Rattle.owner.proofs.Twice as B
 use Rattle.owner.proofs.Twice.Laws as B′
 use Rattle.lending.proofs.Owning.{Answer}
