@@ -1,4 +1,5 @@
 -- `reg8_number` meets its contract: each of the 13 arms knows its variant. Assumes nothing.
+use mathlib.Core.Path.{refl}
 use borrow.Author.Needs.{needs}
 use Rattle.ordinals.proofs.reg8_number.Statement.{statement}
 use Rattle.ordinals.proofs.reg8_number.Tie as tie
@@ -20,16 +21,16 @@ reg8-number-spec =
     (λ c. search needs)
     (λ c. search needs)
     (λ c. search needs)
-    (λ c. rw (c .enum-told .given .1))
-    (λ c. rw (c .enum-told2 .given .1))
-    (λ c. rw (c .enum-told3 .given .1))
-    (λ c. rw (c .enum-told4 .given .1))
-    (λ c. rw (c .enum-told5 .given .1))
-    (λ c. rw (c .enum-told6 .given .1))
-    (λ c. rw (c .enum-told7 .given .1))
-    (λ c. rw (c .enum-told8 .given .1))
-    (λ c. rw (c .enum-told9 .given .1))
-    (λ c. rw (c .enum-told10 .given .1))
-    (λ c. rw (c .enum-told11 .given .1))
-    (λ c. rw (c .enum-told12 .given .1))
-    (λ c. rw (c .enum-told13 .given .1)))
+    (λ c. rw (c .enum-told .given .1) refl)
+    (λ c. rw (c .enum-told2 .given .1) refl)
+    (λ c. rw (c .enum-told3 .given .1) refl)
+    (λ c. rw (c .enum-told4 .given .1) refl)
+    (λ c. rw (c .enum-told5 .given .1) refl)
+    (λ c. rw (c .enum-told6 .given .1) refl)
+    (λ c. rw (c .enum-told7 .given .1) refl)
+    (λ c. rw (c .enum-told8 .given .1) refl)
+    (λ c. rw (c .enum-told9 .given .1) refl)
+    (λ c. rw (c .enum-told10 .given .1) refl)
+    (λ c. rw (c .enum-told11 .given .1) refl)
+    (λ c. rw (c .enum-told12 .given .1) refl)
+    (λ c. rw (c .enum-told13 .given .1) refl))

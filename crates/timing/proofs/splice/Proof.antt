@@ -1,5 +1,5 @@
 -- `splice` meets its contract: refused where `may_splice` says no, else the six places with the count. Assumes nothing.
-use mathlib.Core.Path.{sym, _∙_}
+use mathlib.Core.Path.{refl, sym, _∙_}
 use native.Mathlib.Omega.{arith}
 use borrow.Author.Needs.{needs}
 use Rattle.timing.specs.Splice.{spliceOf}
@@ -27,11 +27,11 @@ cast-count c = omega (arith, room _ _ _ _ (sym (c .before .before .before .may-s
 
 returns : tie.Need-returns
 unfolding spliceOf
-returns c = rw (sym (c .before .before .before .before .may-splice .ensures) ∙ c .before .before .before .if1 .taken, c .before .with-spliced .ensures)
+returns c = rw (sym (c .before .before .before .before .may-splice .ensures) ∙ c .before .before .before .if1 .taken, c .before .with-spliced .ensures) refl
 
 returns-2 : tie.Need-returns-2
 unfolding spliceOf
-returns-2 c = rw (sym (c .before .may-splice .ensures) ∙ c .if1 .left)
+returns-2 c = rw (sym (c .before .may-splice .ensures) ∙ c .if1 .left) refl
 
 pub splice-spec : {M : Type 1} → statement M
 splice-spec = tie.close (tie.spec cast-m may-splice-requires with-spliced-requires add-count sub-count cast-count returns returns-2)
