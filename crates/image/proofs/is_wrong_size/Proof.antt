@@ -10,7 +10,7 @@ use Rattle.image.proofs.is_wrong_size.Statement.{statement}
 use Rattle.image.proofs.is_wrong_size.Tie as tie
 
 returns : tie.Need-returns
-returns c = rw (eq-eqb (length (now (c .before .args .image))) 0 (c .if1 .taken)) refl
+returns c = rw (eq-eqb (length (now (c .before .args .image))) 0 (omega arith)) refl
 
 returns-2 : tie.Need-returns-2
 returns-2 c = rw (ne-eqb _ _ (c .if1 .left)) (over-told (c .before .args .origin) (length (now (c .before .args .image))) 65536 (omega arith))

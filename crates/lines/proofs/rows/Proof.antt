@@ -25,8 +25,8 @@ at k = let s = k .before .before .before .before .before .before .args in within
 returns-3 : tie.Need-returns-3
 returns-3 c =
     let s = c .before .before .before .before .before .before .before .args in
-    let none = page-full (length (now (s .out))) (listing (s .address) (drop (s .address - s .origin) (now (s .image)))) (c .if3 .taken) in
-    rw (sym (c .before .before .before .before .is-wrong-size .ensures) ∙ c .before .before .before .if1 .left, sym (c .before .before .is-outside .ensures) ∙ c .before .if2 .left, lt-ltb (length (now (s .out))) 58 (c .if3 .taken), none) (refl, refl)
+    let none = page-full (length (now (s .out))) (listing (s .address) (drop (s .address - s .origin) (now (s .image)))) (omega arith) in
+    rw (sym (c .before .before .before .before .is-wrong-size .ensures) ∙ c .before .before .before .if1 .left, sym (c .before .before .is-outside .ensures) ∙ c .before .if2 .left, lt-ltb (length (now (s .out))) 58 (omega arith), none) (refl, refl)
 
 sub-put-rows : tie.Need-sub-put-rows
 sub-put-rows c = at (c .before) .low
