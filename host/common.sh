@@ -1,25 +1,36 @@
-# Sourced by host/run and host/exhaust, after `rt staticlib exports`: the archive, which is for x86-64, the C programs that the
-# kit links with it, and the Rust programs.
+# Sourced by z80 and the commands of host/: the words that run a program for x86-64, the C programs that the kit links with the
+# archive of `rt staticlib exports`, and the Rust programs.
 top=$(cd "$(dirname "$(readlink -f "${BASH_SOURCE[0]}")")/.." && pwd -P)
 PATH=$PATH:${HOME:-}/.cargo/bin
 export CARGO_TARGET_DIR=$top/host/target
 archive=$top/target/staticlib
 machine=$(uname -m)
-if [ "$machine" = x86_64 ]; then
-    export EXPORTS_DIR=$archive
-fi
+
+# The kit's tools for this machine are then in `tools`, and its compiler and emulator in `chain`.
+find_tools() {
+    tools=$(cd "$(dirname "$(rt doc </dev/null)")/../on/$machine" && pwd -P)
+    chain=$tools/toolchain
+}
+
+# for_x86_64 PROGRAM: the words that run it are then in `run`: on x86-64 the program alone, on another machine the kit's emulator
+# before it.
+for_x86_64() {
+    run=("$1")
+    if [ "$machine" != x86_64 ]; then
+        find_tools
+        run=("$chain/bin/qemu-x86_64" "$chain/lib/ld-linux-x86-64.so.2" --library-path "$chain/lib" "$1")
+    fi
+}
 
 # link NAME: compiles host/NAME.c and links it with the archive, where one of these or the header is newer. The words that run
-# it are then in `linked`: on x86-64 the program alone, on another machine the kit's emulator before it.
+# it are then in `run`.
 link() {
-    local tools chain part newer= out=$top/target/$1
-    tools=$(cd "$(dirname "$(rt doc)")/../on/$machine" && pwd -P)
-    chain=$tools/toolchain
-    linked=("$out/$1")
+    local part newer= out=$top/target/$1
     for part in "$top/host/$1.c" "$top/host/exports.h" "$archive/libexports.a"; do
         [ "$part" -nt "$out/$1" ] && newer=$part
     done
     if [ -n "$newer" ]; then
+        find_tools
         mkdir -p "$out"
         "$chain/bin/clang" --target=x86_64-unknown-linux-gnu -O2 -fPIC -ffreestanding -c "$top/host/$1.c" -o "$out/$1.o" || exit 1
         "$tools/bin/rattle-link" --target x86_64-unknown-linux-gnu --toolchain "$chain" -o "$out/$1" "$out/$1.o" "$archive/libexports.a" 2>"$out/log" || {
@@ -27,9 +38,7 @@ link() {
             exit 1
         }
     fi
-    if [ "$machine" != x86_64 ]; then
-        linked=("$chain/bin/qemu-x86_64" "$chain/lib/ld-linux-x86-64.so.2" --library-path "$chain/lib" "${linked[@]}")
-    fi
+    for_x86_64 "$out/$1"
 }
 
 # start NAME WORDS...: builds a Rust program and goes on as it.

@@ -69,7 +69,7 @@ impl Calls {
 }
 
 impl Inputs {
-    fn asked(&self) -> impl Iterator<Item = Asked<'_>> {
+    pub fn asked(&self) -> impl Iterator<Item = Asked<'_>> {
         (0..1usize << (8 * self.free)).map(|k| {
             let free = &(k as u16).to_be_bytes()[2 - self.free as usize..];
             Asked::Bytes(self.function, [&self.fixed, free].concat())

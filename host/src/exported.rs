@@ -169,9 +169,7 @@ mod bridge {
     use crate::outcome::{Call, Lent, Outcome};
     use crate::piped::Piped;
     use crate::runs::Run;
-    use std::io::{self, BufWriter, Write};
-    use std::process::ChildStdin;
-    use std::thread;
+    use std::io;
 
     /// The bridge, with the outcomes of all calls that it was asked for to come from it.
     pub struct Exported {
@@ -179,14 +177,12 @@ mod bridge {
     }
 
     impl Exported {
-        /// The words are the command that runs the bridge. A thread asks for the calls, so that neither side waits on a
-        /// full pipe.
+        /// The words are the command that runs the bridge.
         pub fn start<F>(words: &[String], calls: F) -> io::Result<Exported>
         where
             F: FnOnce() -> Run + Send + 'static,
         {
-            let (bridge, requests) = Piped::start(words)?;
-            thread::spawn(|| ask(requests, calls()));
+            let bridge = Piped::asked(words, || calls().map(|calls| calls.request()))?;
             Ok(Exported { bridge })
         }
 
@@ -210,13 +206,5 @@ mod bridge {
         pub fn finish(self) -> io::Result<()> {
             self.bridge.finish()
         }
-    }
-
-    fn ask(requests: ChildStdin, run: Run) -> io::Result<()> {
-        let mut requests = BufWriter::new(requests);
-        for calls in run {
-            requests.write_all(&calls.request())?;
-        }
-        requests.flush()
     }
 }

@@ -1,7 +1,8 @@
 //! A program in a child process that answers requests on its standard input.
 
-use std::io::{self, BufReader, Read};
+use std::io::{self, BufReader, BufWriter, Read, Write};
 use std::process::{Child, ChildStdin, ChildStdout, Command, Stdio};
+use std::thread;
 
 /// The program, and what it writes.
 pub struct Piped {
@@ -14,7 +15,7 @@ impl Piped {
     pub fn start(words: &[String]) -> io::Result<(Piped, ChildStdin)> {
         let (program, rest) = words
             .split_first()
-            .ok_or(io::Error::other("no command for the exported functions"))?;
+            .ok_or(io::Error::other("no command to run"))?;
         let mut command = Command::new(program);
         command
             .args(rest)
@@ -25,6 +26,19 @@ impl Piped {
         let written = child.stdout.take().expect("piped");
         let written = BufReader::with_capacity(1 << 16, written);
         Ok((Piped { child, written }, requests))
+    }
+
+    /// Starts the program and has a thread write all requests, so that neither side waits on a full pipe.
+    pub fn asked<R>(
+        words: &[String],
+        requests: impl FnOnce() -> R + Send + 'static,
+    ) -> io::Result<Piped>
+    where
+        R: Iterator<Item = Vec<u8>>,
+    {
+        let (program, to) = Piped::start(words)?;
+        thread::spawn(|| ask(to, requests()));
+        Ok(program)
     }
 
     /// The next bytes that it writes.
@@ -43,6 +57,14 @@ impl Piped {
             false => Err(failed("did not end as it should")),
         }
     }
+}
+
+fn ask(to: ChildStdin, requests: impl Iterator<Item = Vec<u8>>) -> io::Result<()> {
+    let mut to = BufWriter::new(to);
+    for request in requests {
+        to.write_all(&request)?;
+    }
+    to.flush()
 }
 
 fn failed(how: &str) -> io::Error {

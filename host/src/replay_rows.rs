@@ -5,22 +5,15 @@ use crate::function::{Function, TEXT_MAX};
 use crate::inputs;
 use crate::outcome::{expected, Call, Lent, Outcome, LOOKED_AT};
 use crate::record::RECORD_SIZE;
-use crate::stored::Row;
-use std::collections::HashSet;
+use crate::stored::{distinct, padded, Row};
 use std::fmt::Write;
-
-/// A request carries five bytes, those beyond its input zero.
-const REQUEST_BYTES: usize = 5;
 
 /// So much of the buffer is printed with a text.
 const PRINTED: usize = 56;
 
 /// All rows, none twice.
 pub fn rows() -> Vec<Row> {
-    let mut rows = [records(), texts()].concat();
-    let mut seen = HashSet::new();
-    rows.retain(|row| seen.insert(row.request.clone()));
-    rows
+    distinct([records(), texts()].concat())
 }
 
 fn records() -> Vec<Row> {
@@ -87,9 +80,8 @@ fn text_row(function: Function, ins: &[u8], room: usize) -> Row {
 
 /// The function's number, the room, the input's count and bytes.
 fn request(function: Function, room: usize, ins: &[u8]) -> Vec<u8> {
-    let mut bytes = [0; REQUEST_BYTES];
-    bytes[..ins.len()].copy_from_slice(ins);
-    [&[function as u8, room as u8, ins.len() as u8], &bytes[..]].concat()
+    let head = [function as u8, room as u8, ins.len() as u8];
+    [&head[..], &padded(ins)].concat()
 }
 
 /// What each line begins with.

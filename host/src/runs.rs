@@ -2,19 +2,20 @@
 
 use crate::calls::{About, Calls, Inputs};
 use crate::function::{Function, TEXT_MAX};
+use crate::input_runs::{behind, behind_prefix, long, random, up_to_four, up_to_two, InputRun};
 use crate::map_runs::map_runs;
-use crate::mixed::Mixed;
 use crate::pages::{edged, ED_BEHIND, PAGES};
 use crate::row_runs::row_runs;
 use crate::tally::{OF_BYTES, OF_MAPS, OF_ROWS};
-
-const RANDOM_INPUTS: usize = 1_000_000;
 
 /// So many maps at least come to each answer of the map check.
 const OF_EACH_ANSWER: usize = 2_000;
 
 /// The pages that have their codes in the first two bytes.
 const SHALLOW: usize = 5;
+
+/// Lengths of the inputs that are too long.
+const LONG: [usize; 9] = [5, 6, 7, 8, 16, 64, 255, 256, 300];
 
 pub type Run = Box<dyn Iterator<Item = Calls>>;
 
@@ -23,7 +24,7 @@ pub struct Group {
     pub function: &'static str,
     pub to_meet: &'static [usize],
     pub at_least: usize,
-    pub runs: Vec<(&'static str, Run)>,
+    pub runs: Vec<(String, Run)>,
 }
 
 /// For the record none, one too few, exactly enough, one more, and more; for a text every room up to two over the longest.
@@ -43,81 +44,42 @@ fn enough_room(function: Function, k: usize) -> Vec<u8> {
     vec![rooms[k % rooms.len()]]
 }
 
-fn inputs(function: Function, free: u8, fixed: Vec<u8>) -> About {
-    About::Inputs(Inputs {
-        function,
-        free,
-        fixed,
-    })
-}
-
-/// Calls over these fixed bytes in every room.
-fn in_every_room(function: Function, free: u8, rows: Vec<Vec<u8>>) -> Run {
-    Box::new(rows.into_iter().map(move |fixed| Calls {
-        rooms: every_room(function),
-        about: inputs(function, free, fixed),
+/// Calls over these inputs in every room.
+fn in_every_room(inputs: Vec<Inputs>) -> Run {
+    Box::new(inputs.into_iter().map(|inputs| Calls {
+        rooms: every_room(inputs.function),
+        about: About::Inputs(inputs),
     }))
 }
 
-/// Calls over these fixed bytes, in a room that is enough.
-fn in_enough_room(function: Function, free: u8, rows: Vec<Vec<u8>>) -> Run {
-    let rows = rows.into_iter().enumerate();
-    Box::new(rows.map(move |(k, fixed)| Calls {
-        rooms: enough_room(function, k),
-        about: inputs(function, free, fixed),
+/// Calls over these inputs, in a room that is enough.
+fn in_enough_room(inputs: Vec<Inputs>) -> Run {
+    let inputs = inputs.into_iter().enumerate();
+    Box::new(inputs.map(|(k, inputs)| Calls {
+        rooms: enough_room(inputs.function, k),
+        about: About::Inputs(inputs),
     }))
 }
 
-fn up_to_two(function: Function) -> Run {
-    Box::new((0..=2).flat_map(move |free| in_every_room(function, free, vec![vec![]])))
+/// Every first byte with five bytes and more.
+fn too_long(function: Function) -> Run {
+    in_every_room(behind(function, 0, long(&LONG)))
 }
 
-/// A prefix with each byte behind it.
-fn one_behind(prefix: &[u8]) -> Vec<Vec<u8>> {
-    (0..=0xFF).map(|next| [prefix, &[next]].concat()).collect()
-}
-
-fn random(function: Function) -> Run {
-    let mut mixed = Mixed::new(0x5A80_2026);
-    let rows = (0..RANDOM_INPUTS).map(|_| mixed.bytes(4)).collect();
-    in_enough_room(function, 0, rows)
-}
-
-/// Every first byte with five bytes and more: Long, which the original is not asked for because it panics.
-fn long(function: Function) -> Run {
-    let mut mixed = Mixed::new(0x5A80_0005);
-    let mut rows = vec![];
-    for length in [5, 6, 7, 8, 16, 64, 255, 256, 300] {
-        for first in 0..=0xFF {
-            rows.push([vec![first], mixed.bytes(length - 1)].concat());
-        }
+fn named(run: InputRun) -> (String, Run) {
+    let InputRun { name, inputs, .. } = run;
+    match run.every_room {
+        true => (format!("{name}, every room"), in_every_room(inputs)),
+        false => (name.into(), in_enough_room(inputs)),
     }
-    in_every_room(function, 0, rows)
 }
 
-/// The runs of `z80_record`; those of pages and prefixes are of four bytes.
-fn record_runs() -> Vec<(&'static str, Run)> {
-    let function = Function::Record;
-    let page = |prefix: &[u8]| in_every_room(function, 1, edged(prefix, 3));
-    let three_behind = |prefix: &[u8]| in_enough_room(function, 2, one_behind(prefix));
-    let two_behind = |prefix: &[u8]| in_every_room(function, 2, vec![prefix.to_vec()]);
-    vec![
-        ("all of 0 to 2 bytes, every room", up_to_two(function)),
-        ("all of 3 bytes", three_behind(&[])),
-        ("plain page, every room", page(&[])),
-        ("CB page, every room", page(&[0xCB])),
-        ("ED page, every room", page(&[0xED])),
-        ("DD page, every room", page(&[0xDD])),
-        ("FD page, every room", page(&[0xFD])),
-        ("all behind DD", three_behind(&[0xDD])),
-        ("all behind FD", three_behind(&[0xFD])),
-        ("all behind DD CB, every room", two_behind(&[0xDD, 0xCB])),
-        ("all behind FD CB, every room", two_behind(&[0xFD, 0xCB])),
-        ("all behind DD ED, every room", two_behind(&[0xDD, 0xED])),
-        ("all behind FD ED, every room", two_behind(&[0xFD, 0xED])),
-        ("random 4 bytes", random(function)),
-        ("5 to 300 bytes, every room", long(function)),
-    ]
+/// The runs of `z80_record`.
+fn record_runs() -> Vec<(String, Run)> {
+    let up_to_four = up_to_four().into_iter().chain(behind_prefix());
+    let too_long = too_long(Function::Record);
+    let too_long = ("5 to 300 bytes, every room".into(), too_long);
+    up_to_four.map(named).chain([too_long]).collect()
 }
 
 /// The runs of a text; those of pages and prefixes are of four bytes.
@@ -125,29 +87,39 @@ fn text_runs(function: Function) -> Vec<(&'static str, Run)> {
     let pages = [&PAGES[..], &ED_BEHIND].concat();
     let (shallow, deep) = pages.split_at(SHALLOW);
     let edges = pages.iter().flat_map(|prefix| edged(prefix, 4)).collect();
-    let edges = in_every_room(function, 0, edges);
     let codes = shallow.iter().flat_map(|prefix| edged(prefix, 3)).collect();
-    let codes = in_enough_room(function, 1, codes);
-    let behind = deep.iter().map(|prefix| prefix.to_vec()).collect();
-    let behind = in_enough_room(function, 2, behind);
+    let deep = deep.iter().map(|prefix| prefix.to_vec()).collect();
+    let up_to_two = in_every_room(up_to_two(function));
+    let edges = in_every_room(behind(function, 0, edges));
+    let codes = in_enough_room(behind(function, 1, codes));
+    let deep = in_enough_room(behind(function, 2, deep));
     vec![
-        ("all of 0 to 2 bytes, every room", up_to_two(function)),
+        ("all of 0 to 2 bytes, every room", up_to_two),
         ("edges on every page, every room", edges),
         ("plain, CB, ED, DD and FD page", codes),
-        ("all behind DD CB, FD CB, DD ED, FD ED", behind),
-        ("random 4 bytes", random(function)),
-        ("5 to 300 bytes, every room", long(function)),
+        ("all behind DD CB, FD CB, DD ED, FD ED", deep),
+        ("random 4 bytes", in_enough_room(random(function))),
+        ("5 to 300 bytes, every room", too_long(function)),
     ]
+}
+
+/// The runs of a function, each of whose answers is to be met.
+fn group<N: Into<String>>(
+    function: &'static str,
+    to_meet: &'static [usize],
+    runs: Vec<(N, Run)>,
+) -> Group {
+    let runs = runs.into_iter().map(|(name, run)| (name.into(), run));
+    Group {
+        function,
+        to_meet,
+        at_least: 1,
+        runs: runs.collect(),
+    }
 }
 
 /// All runs, by function.
 pub fn groups() -> [Group; 5] {
-    let group = |function, to_meet, runs| Group {
-        function,
-        to_meet,
-        at_least: 1,
-        runs,
-    };
     let maps = Group {
         at_least: OF_EACH_ANSWER,
         ..group("map check", &OF_MAPS, map_runs())

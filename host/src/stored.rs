@@ -1,6 +1,10 @@
 //! The stored runs of programs: what each reads, and what the original has it print.
 
-use crate::{edit_rows, list_rows, replay_rows};
+use crate::{edit_rows, list_rows, replay_rows, staged};
+use std::collections::HashSet;
+
+/// So many bytes of an input are in a request, those beyond it zero.
+const INPUT_BYTES: usize = 5;
 
 /// A part of what a program reads, and what it prints for that.
 #[derive(Clone)]
@@ -21,6 +25,10 @@ pub fn stored() -> Vec<Stored> {
         folder: "replay",
         rows: replay_rows::rows(),
     };
+    let replay_staged = Stored {
+        folder: "replay_staged",
+        rows: staged::rows(),
+    };
     let edits = Stored {
         folder: "edits",
         rows: edit_rows::rows(),
@@ -29,7 +37,22 @@ pub fn stored() -> Vec<Stored> {
         folder,
         rows: list_rows::rows(&image),
     });
-    [replay, edits].into_iter().chain(lists).collect()
+    let requested = [replay, replay_staged, edits];
+    requested.into_iter().chain(lists).collect()
+}
+
+/// The bytes of an input as they stand in a request.
+pub fn padded(ins: &[u8]) -> [u8; INPUT_BYTES] {
+    let mut bytes = [0; INPUT_BYTES];
+    bytes[..ins.len()].copy_from_slice(ins);
+    bytes
+}
+
+/// The rows without those whose request stands before them.
+pub fn distinct(mut rows: Vec<Row>) -> Vec<Row> {
+    let mut seen = HashSet::new();
+    rows.retain(|row| seen.insert(row.request.clone()));
+    rows
 }
 
 impl Stored {

@@ -36,7 +36,7 @@ fn check(crates: &Path, stored: &Stored) -> Result<(), String> {
         if let Some(n) = first_differing(&file, &parts) {
             let row = stored.rows.get(n - 1);
             let line = row.map_or(&b"no such row"[..], |row| &row.line);
-            let original = String::from_utf8_lossy(line.trim_ascii_end());
+            let original = line.trim_ascii_end().escape_ascii();
             return Err(format!(
                 "{shown}: row {n} differs; the original: {original}"
             ));
