@@ -2,7 +2,8 @@
 // x86-64 and run under the kit's emulator. It reads calls on standard input, as `Calls::request` writes them, and writes for
 // each the answer number, whether a map was altered, the lent count, number of bytes passed and address, and the lent buffer as
 // they are then.
-#include "exports.h"
+#include "z80.h"
+#include <unistd.h>
 
 // The functions by the numbers of src/function.rs and src/calls.rs.
 enum { RECORD, TEXT, FULL_TEXT, ROW, MAP };
@@ -11,26 +12,26 @@ enum { LONGEST = 65537, LONGEST_PART = 2 * LONGEST + 1, BEHIND = 4, PIPE = 65536
 
 // What a call is about: the bytes of a row, an image and where it is looked at, or the map that was read last.
 struct about {
-    u8 function;
-    usize len;
-    u16 origin, address;
+    uint8_t function;
+    size_t len;
+    uint16_t origin, address;
 };
 
 // A part of a map, with what stands behind it, as src/laid.rs has it: as it is lent, and as it was.
 struct part {
-    usize len;
-    u8 lent[LONGEST_PART + BEHIND], kept[LONGEST_PART + BEHIND];
+    size_t len;
+    uint8_t lent[LONGEST_PART + BEHIND], kept[LONGEST_PART + BEHIND];
 };
 
-static u8 asked[PIPE], said[PIPE], bytes[LONGEST + BEHIND], rooms[256];
-static usize asked_at, asked_end, said_end, sizes;
+static uint8_t asked[PIPE], said[PIPE], bytes[LONGEST + BEHIND], rooms[256];
+static size_t asked_at, asked_end, said_end, sizes;
 static struct part image, marks, entries;
 
 // The next n bytes asked; 0 where the input ends before them.
-static int get(u8 *to, usize n) {
-    for (usize i = 0; i < n; i++) {
+static int get(uint8_t *to, size_t n) {
+    for (size_t i = 0; i < n; i++) {
         if (asked_at == asked_end) {
-            isize got = read(0, asked, PIPE);
+            ssize_t got = read(0, asked, PIPE);
             if (got <= 0) return 0;
             asked_at = 0;
             asked_end = got;
@@ -41,12 +42,12 @@ static int get(u8 *to, usize n) {
 }
 
 // The next n bytes as a number, low byte first.
-static int get_number(usize *to, usize n) {
-    u8 byte;
+static int get_number(size_t *to, size_t n) {
+    uint8_t byte;
     *to = 0;
-    for (usize i = 0; i < n; i++) {
+    for (size_t i = 0; i < n; i++) {
         if (!get(&byte, 1)) return 0;
-        *to |= (usize)byte << 8 * i;
+        *to |= (size_t)byte << 8 * i;
     }
     return 1;
 }
@@ -56,24 +57,24 @@ static int get_rooms(void) {
 }
 
 // So many bytes, zeros behind them, and the rooms.
-static int get_bytes_and_rooms(usize len) {
+static int get_bytes_and_rooms(size_t len) {
     if (len > LONGEST || !get(bytes, len)) return 0;
-    for (usize i = 0; i < BEHIND; i++) bytes[len + i] = 0;
+    for (size_t i = 0; i < BEHIND; i++) bytes[len + i] = 0;
     return get_rooms();
 }
 
 // A part of a map behind its count, and so many times a byte behind it.
-static int get_part(struct part *part, u8 behind) {
+static int get_part(struct part *part, uint8_t behind) {
     if (!get_number(&part->len, 4) || part->len > LONGEST_PART || !get(part->kept, part->len)) return 0;
-    for (usize i = 0; i < BEHIND; i++) part->kept[part->len + i] = behind;
-    for (usize i = 0; i < part->len + BEHIND; i++) part->lent[i] = part->kept[i];
+    for (size_t i = 0; i < BEHIND; i++) part->kept[part->len + i] = behind;
+    for (size_t i = 0; i < part->len + BEHIND; i++) part->lent[i] = part->kept[i];
     return 1;
 }
 
 // Writes out what is said so far.
 static int flush(void) {
-    for (usize at = 0; at < said_end;) {
-        isize took = write(1, said + at, said_end - at);
+    for (size_t at = 0; at < said_end;) {
+        ssize_t took = write(1, said + at, said_end - at);
         if (took <= 0) return 0;
         at += took;
     }
@@ -81,30 +82,30 @@ static int flush(void) {
     return 1;
 }
 
-static void put_number(u8 *to, u32 number) {
-    for (usize i = 0; i < NUMBER; i++) to[i] = number >> 8 * i;
+static void put_number(uint8_t *to, uint32_t number) {
+    for (size_t i = 0; i < NUMBER; i++) to[i] = number >> 8 * i;
 }
 
 // An empty slice passes as a null pointer, through which nothing may be read or written.
-static const u8 *slice(const u8 *from, usize len) {
+static const uint8_t *slice(const uint8_t *from, size_t len) {
     return len ? from : 0;
 }
 
-static u8 check(u16 origin, u32 *address) {
-    const u8 *i = slice(image.lent, image.len), *m = slice(marks.lent, marks.len), *e = slice(entries.lent, entries.len);
+static uint8_t check(uint16_t origin, uint32_t *address) {
+    const uint8_t *i = slice(image.lent, image.len), *m = slice(marks.lent, marks.len), *e = slice(entries.lent, entries.len);
     return z80_map_check(i, image.len, origin, m, marks.len, e, entries.len, address);
 }
 
 // Whether a part of the map, or what stands behind it, is not as it was.
 static int is_altered(const struct part *part) {
-    for (usize i = 0; i < part->len + BEHIND; i++) {
+    for (size_t i = 0; i < part->len + BEHIND; i++) {
         if (part->lent[i] != part->kept[i]) return 1;
     }
     return 0;
 }
 
-static u8 call(const struct about *a, u8 *out, usize room, u32 *count, u32 *passed, u32 *address) {
-    const u8 *ins = slice(bytes, a->len);
+static uint8_t call(const struct about *a, uint8_t *out, size_t room, uint32_t *count, uint32_t *passed, uint32_t *address) {
+    const uint8_t *ins = slice(bytes, a->len);
     if (!room) out = 0;
     switch (a->function) {
     case RECORD: return z80_record(ins, a->len, out, room);
@@ -116,11 +117,11 @@ static u8 call(const struct about *a, u8 *out, usize room, u32 *count, u32 *pass
 }
 
 // The k-th call, with numbers and buffer filled as by `filled` of src/outcome.rs.
-static int answer(const struct about *a, usize room, usize k) {
+static int answer(const struct about *a, size_t room, size_t k) {
     if (room > LOOKED_AT || (PIPE - said_end < OUTCOME && !flush())) return 0;
-    u8 *number = said + said_end, *altered = number + 1, *numbers = number + 2, *lent = numbers + NUMBERS * NUMBER;
-    u32 count = 0xA5A50000 + k, passed = 0x5A5A0000 + k, address = 0xC3C30000 + k;
-    for (usize place = 0; place < LOOKED_AT; place++) lent[place] = 31 * k + 7 * place + 1;
+    uint8_t *number = said + said_end, *altered = number + 1, *numbers = number + 2, *lent = numbers + NUMBERS * NUMBER;
+    uint32_t count = 0xA5A50000 + k, passed = 0x5A5A0000 + k, address = 0xC3C30000 + k;
+    for (size_t place = 0; place < LOOKED_AT; place++) lent[place] = 31 * k + 7 * place + 1;
     *number = call(a, lent, room, &count, &passed, &address);
     *altered = a->function == MAP && (is_altered(&image) || is_altered(&marks) || is_altered(&entries));
     put_number(numbers, count);
@@ -131,20 +132,20 @@ static int answer(const struct about *a, usize room, usize k) {
 }
 
 // The calls in each of the rooms, of which the first is the k-th.
-static int answer_rooms(const struct about *a, usize k) {
-    for (usize i = 0; i < sizes; i++) {
+static int answer_rooms(const struct about *a, size_t k) {
+    for (size_t i = 0; i < sizes; i++) {
         if (!answer(a, rooms[i], k + i)) return 0;
     }
     return 1;
 }
 
 // A function of a row's bytes: the fixed ones, then every choice of the free ones.
-static int answer_inputs(u8 function) {
-    usize free, fixed;
+static int answer_inputs(uint8_t function) {
+    size_t free, fixed;
     if (!get_number(&free, 1) || !get_number(&fixed, 2) || !get_bytes_and_rooms(fixed) || free > 2) return 0;
     struct about a = {function, fixed + free, 0, 0};
-    for (usize choice = 0; choice < 1ul << 8 * free; choice++) {
-        for (usize i = 0; i < free; i++) bytes[fixed + i] = choice >> 8 * (free - 1 - i);
+    for (size_t choice = 0; choice < 1ul << 8 * free; choice++) {
+        for (size_t i = 0; i < free; i++) bytes[fixed + i] = choice >> 8 * (free - 1 - i);
         if (!answer_rooms(&a, choice * sizes)) return 0;
     }
     return 1;
@@ -152,10 +153,10 @@ static int answer_inputs(u8 function) {
 
 // Rows of an image, at so many addresses from the first on.
 static int answer_places(void) {
-    usize origin, first, count, len;
+    size_t origin, first, count, len;
     if (!get_number(&origin, 2) || !get_number(&first, 2) || !get_number(&count, 4) || !get_number(&len, 4)) return 0;
     if (!get_bytes_and_rooms(len)) return 0;
-    for (usize i = 0; i < count; i++) {
+    for (size_t i = 0; i < count; i++) {
         struct about a = {ROW, len, origin, first + i};
         if (!answer_rooms(&a, i * sizes)) return 0;
     }
@@ -164,13 +165,13 @@ static int answer_places(void) {
 
 // The check of a map: starts stand behind its marks, and entries outside behind those that it has.
 static int answer_map(void) {
-    usize origin;
+    size_t origin;
     if (!get_number(&origin, 2) || !get_part(&image, 0) || !get_part(&marks, 1) || !get_part(&entries, 0xFF)) return 0;
     struct about a = {MAP, 0, origin, 0};
     return get_rooms() && answer_rooms(&a, 0);
 }
 
-static int answer_next(u8 function) {
+static int answer_next(uint8_t function) {
     switch (function) {
     case RECORD: case TEXT: case FULL_TEXT: return answer_inputs(function);
     case ROW: return answer_places();
@@ -180,7 +181,7 @@ static int answer_next(u8 function) {
 }
 
 int main(void) {
-    u8 function;
+    uint8_t function;
     while (get(&function, 1)) {
         if (!answer_next(function)) return 1;
     }

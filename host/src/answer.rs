@@ -1,10 +1,16 @@
-//! What the original says of some bytes: a record, or a refusal.
+//! What a function answers: document 01's numbers, their names, and the most bytes that it writes.
 
-use crate::original::{disas, OpCode};
 use Refusal::*;
 
-/// The most bytes that the original takes; it panics on more.
-pub const LARGEST_INPUT: usize = 4;
+/// A record has so many bytes: length, instruction, three operand places of three bytes, four data bytes, six T-states, machine
+/// cycles.
+pub const RECORD_SIZE: usize = 22;
+
+/// The longest text of a decoded record.
+pub const TEXT_MAX: usize = 52;
+
+/// The longest line: address, space, full text, LF.
+pub const LINE_MAX: usize = 4 + 1 + TEXT_MAX + 1;
 
 /// The refusals, as document 01 numbers them; 0 is Done.
 #[derive(Debug, PartialEq, Eq, Clone, Copy)]
@@ -51,15 +57,19 @@ pub fn name(number: usize) -> Option<String> {
     }
 }
 
-/// The original's record; long input is told apart first because the original panics on it.
-pub fn decoded(ins: &[u8]) -> Result<OpCode, Refusal> {
-    if ins.is_empty() {
-        return Err(Nothing);
+/// Why a map is refused, and the address that is told with it.
+#[derive(Debug, PartialEq, Eq, Clone, Copy)]
+pub struct Refused {
+    pub refusal: Refusal,
+    pub address: u16,
+}
+
+/// A refusal that has no address.
+impl From<Refusal> for Refused {
+    fn from(refusal: Refusal) -> Refused {
+        let address = 0;
+        Refused { refusal, address }
     }
-    if ins.len() > LARGEST_INPUT {
-        return Err(Long);
-    }
-    disas(ins).ok_or(Short)
 }
 
 #[cfg(test)]

@@ -1,8 +1,7 @@
-//! What an exported function is asked, and what the original has it write.
+//! What an exported function is asked.
 
+use crate::arguments::{Map, Place};
 use crate::function::Function;
-use crate::listing::Place;
-use crate::marking::{Map, Refused};
 use std::fmt;
 
 /// A function of a row's bytes with those, `z80_row` with its place, or `z80_map_check` with its map.
@@ -14,32 +13,6 @@ pub enum Asked<'a> {
 
 /// So many bytes of each part of a map are shown.
 const SHOWN: usize = 256;
-
-/// What is written where there is room for it: bytes to the lent buffer, and the bytes passed where the function says them.
-pub struct Written {
-    pub bytes: Vec<u8>,
-    pub passed: usize,
-}
-
-/// What is written, or the refusal that comes before the room is looked at. A map check writes no bytes.
-pub type Said = Result<Written, Refused>;
-
-impl Asked<'_> {
-    pub fn said(&self) -> Said {
-        let (bytes, passed) = match self {
-            Asked::Bytes(function, ins) => (function.said(ins)?, 0),
-            Asked::Row(place) => {
-                let row = place.row()?;
-                (row.line, row.passed)
-            }
-            Asked::Map(map) => {
-                map.judged()?;
-                (vec![], 0)
-            }
-        };
-        Ok(Written { bytes, passed })
-    }
-}
 
 impl fmt::Display for Asked<'_> {
     fn fmt(&self, f: &mut fmt::Formatter) -> fmt::Result {

@@ -1,8 +1,8 @@
 //! Calls that are asked for together.
 
+use crate::arguments::Place;
 use crate::asked::Asked;
 use crate::function::Function;
-use crate::listing::Place;
 use crate::maps::Drawn;
 
 /// All that is asked about, in each of the rooms.

@@ -1,7 +1,7 @@
 //! The stored rows of the program `edits`: what the original's edits leave of the records lent to them.
 
 use crate::edit_requests::{requests, Request};
-use crate::record::record;
+use crate::plain::record::record;
 use crate::stored::Row;
 use std::fmt::Write;
 

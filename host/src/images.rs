@@ -1,9 +1,9 @@
 //! Images of code: rows one behind another.
 
-use crate::answer::LARGEST_INPUT;
 use crate::mixed::Mixed;
 use crate::original::disas;
 use crate::pages::{code_at, row, ED_BEHIND, PAGES};
+use crate::plain::LARGEST_INPUT;
 
 /// Of so many pieces of mixed code one is just mixed bytes.
 const PIECES: usize = 16;
@@ -79,7 +79,7 @@ fn longer(prefix: &[u8], mixed: &mut Mixed) -> Vec<u8> {
 #[cfg(test)]
 mod tests {
     use super::*;
-    use crate::listing::listing;
+    use crate::plain::listing::listing;
 
     /// The places in an image where its rows begin.
     fn starts(image: &[u8]) -> Vec<usize> {

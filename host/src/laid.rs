@@ -1,6 +1,6 @@
 //! A map as it is lent to a call: each part is a copy, and bytes stand behind it that change the answer where they are read.
 
-use crate::marking::{Map, START};
+use crate::arguments::{Map, START};
 
 /// So many bytes stand behind each part, the same on every machine.
 const BEHIND: usize = 4;

@@ -1,4 +1,11 @@
-//! The Rust side: the original decoder, its answers in the project's numbers, and the exported functions held to them.
+//! The Rust side. A host needs three modules: `exported` has the proved functions, `arguments` what they take, `answer` what they
+//! answer. All else is unproved and there to compare: `original` and `plain`, the plain reading, say what should come out; the
+//! other modules make the calls, hold the two to each other, and make the stored answers.
+
+pub mod answer;
+pub mod arguments;
+#[cfg(feature = "linked")]
+pub mod exported;
 
 /// The original, compiled from its unchanged source; inside it the module that calls its private edits.
 pub mod original {
@@ -6,29 +13,25 @@ pub mod original {
 
     pub mod edits;
 }
+pub mod plain;
 
-pub mod answer;
 pub mod asked;
+pub mod caller;
 pub mod calls;
 pub mod edit_requests;
 pub mod edit_rows;
-pub mod exported;
-pub mod flow;
 pub mod function;
 pub mod images;
 pub mod input_runs;
 pub mod inputs;
 pub mod laid;
 pub mod list_rows;
-pub mod listing;
 pub mod map_runs;
 pub mod maps;
-pub mod marking;
 pub mod mixed;
 pub mod outcome;
 pub mod pages;
 pub mod piped;
-pub mod record;
 pub mod replay_rows;
 pub mod row_runs;
 pub mod runs;

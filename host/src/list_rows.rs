@@ -1,9 +1,9 @@
 //! The stored images of the listing program, and the lines that it has to print for each.
 
 use crate::images::{mixed_code, page, whole};
-use crate::listing::listing;
 use crate::mixed::Mixed;
 use crate::pages::{ED_BEHIND, PAGES};
+use crate::plain::listing::listing;
 use crate::stored::Row;
 
 /// The longest image that is listed, and what is printed for a longer one.

@@ -9,7 +9,7 @@ pub mod grown;
 pub mod lone;
 pub mod small;
 
-use crate::marking::Map;
+use crate::arguments::Map;
 
 /// An image at an origin, marks as anyone may have drawn them, entries as byte pairs.
 #[derive(Debug, PartialEq, Eq, Clone)]

@@ -1,8 +1,9 @@
 //! What a call of an exported function answers and leaves in what was lent to it, and what it should.
 
 use crate::answer::Refusal;
-use crate::asked::{Asked, Said};
+use crate::asked::Asked;
 use crate::function::Function;
+use crate::plain::said::Said;
 
 /// The bytes that are looked at: more than the largest room lent. Those past a room must stay as they were.
 pub const LOOKED_AT: usize = 64;
@@ -90,8 +91,9 @@ fn shown(outcome: Outcome) -> String {
 #[cfg(test)]
 mod tests {
     use super::*;
-    use crate::listing::Place;
-    use crate::marking::Map;
+    use crate::arguments::Map;
+    use crate::arguments::Place;
+    use crate::plain::said::said;
     use Function::{FullText, Record, Text};
 
     /// A row at the front of an image.
@@ -133,7 +135,7 @@ mod tests {
             room,
             before,
         };
-        expected(&call, &asked.said())
+        expected(&call, &said(asked))
     }
 
     /// Whether a damage is seen with every function: where it is Done, in too small a room, and where the bytes are refused.

@@ -1,10 +1,11 @@
 //! The stored requests of the program `replay`, and the original's answers to them.
 
+use crate::answer::{RECORD_SIZE, TEXT_MAX};
 use crate::asked::Asked;
-use crate::function::{Function, TEXT_MAX};
+use crate::function::Function;
 use crate::inputs;
 use crate::outcome::{expected, Call, Lent, Outcome, LOOKED_AT};
-use crate::record::RECORD_SIZE;
+use crate::plain::said::{said, said_of_bytes};
 use crate::stored::{distinct, padded, Row};
 use std::fmt::Write;
 
@@ -31,7 +32,7 @@ fn texts() -> Vec<Row> {
     }
     for ins in inputs::in_every_room() {
         for function in [Function::Text, Function::FullText] {
-            let own = function.said(ins).map_or(0, |text| text.len());
+            let own = said_of_bytes(function, ins).map_or(0, |text| text.len());
             rows.extend((0..=own + 2).map(|room| text_row(function, ins, room)));
         }
     }
@@ -41,7 +42,7 @@ fn texts() -> Vec<Row> {
 /// The line of a record: bytes, number, and where that is 0 the record's bytes.
 fn record_row(ins: &[u8]) -> Row {
     let mut line = shown(ins);
-    match Function::Record.said(ins) {
+    match said_of_bytes(Function::Record, ins) {
         Ok(record) => {
             line.push('0');
             for byte in record {
@@ -70,7 +71,7 @@ fn text_row(function: Function, ins: &[u8], room: usize) -> Row {
             buffer: [b'.'; LOOKED_AT],
         },
     };
-    let Outcome { number, lent, .. } = expected(&call, &asked.said());
+    let Outcome { number, lent, .. } = expected(&call, &said(&asked));
     let numbers = format!("{}{number} {} ", shown(ins), lent.count);
     Row {
         request: request(function, room, ins),

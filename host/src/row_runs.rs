@@ -1,8 +1,9 @@
 //! The calls of `z80_row` that are compared: of each image, at some origins, the rows at all addresses in it and around it.
 
+use crate::answer::LINE_MAX;
+use crate::arguments::ADDRESSES;
 use crate::calls::{About, Calls, Places};
 use crate::images::{mixed_code, page, whole};
-use crate::listing::{ADDRESSES, LINE_MAX};
 use crate::mixed::Mixed;
 use crate::pages::{ED_BEHIND, PAGES};
 use crate::runs::Run;

@@ -1,7 +1,8 @@
 //! The calls that are compared, in runs under a name.
 
+use crate::answer::TEXT_MAX;
 use crate::calls::{About, Calls, Inputs};
-use crate::function::{Function, TEXT_MAX};
+use crate::function::Function;
 use crate::input_runs::{behind, behind_prefix, long, random, up_to_four, up_to_two, InputRun};
 use crate::map_runs::map_runs;
 use crate::pages::{edged, ED_BEHIND, PAGES};

@@ -2,8 +2,8 @@
 
 pub mod source;
 
-use crate::listing::{listing, window};
 use crate::original::disas;
+use crate::plain::listing::{listing, window};
 use source::{Row, Source};
 
 pub fn image(source: &Source) -> Vec<u8> {

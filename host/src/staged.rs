@@ -1,5 +1,6 @@
 //! The program `replay_staged`, which runs the stages: what it is asked, and what the original has it write.
 
+use crate::answer::RECORD_SIZE;
 use crate::asked::Asked;
 use crate::calls::Inputs;
 use crate::function::Function::Record;
@@ -7,7 +8,8 @@ use crate::input_runs::{behind, behind_prefix, long, up_to_four};
 use crate::inputs;
 use crate::original::{Instruction, OpCode};
 use crate::outcome::{expected, Call, Lent, Outcome, LOOKED_AT};
-use crate::record::{record, RECORD_SIZE};
+use crate::plain::record::record;
+use crate::plain::said::said;
 use crate::stored::{distinct, padded, Row};
 
 /// The answer's number and the record.
@@ -84,7 +86,7 @@ pub fn outcome([number, record @ ..]: [u8; OUTCOME_SIZE]) -> Outcome {
 
 /// What the original has it write.
 fn written(asked: &Asked) -> Vec<u8> {
-    let Outcome { number, lent, .. } = expected(&call(asked), &asked.said());
+    let Outcome { number, lent, .. } = expected(&call(asked), &said(asked));
     [&[number], &lent.buffer[..RECORD_SIZE]].concat()
 }
 
@@ -147,7 +149,7 @@ mod tests {
     /// Whether what the program wrote is told from what the original says.
     fn is_seen(asked: &Asked, written: [u8; OUTCOME_SIZE]) -> bool {
         let call = call(asked);
-        let expected = expected(&call, &asked.said());
+        let expected = expected(&call, &said(&asked));
         difference(&call, expected, outcome(written)).is_some()
     }
 

@@ -75,8 +75,9 @@ fn is_short_row(call: &Call, expected: &Outcome) -> bool {
 #[cfg(test)]
 mod tests {
     use super::*;
-    use crate::listing::Place;
+    use crate::arguments::Place;
     use crate::outcome::{expected, filled};
+    use crate::plain::said::said;
 
     /// Adds a row at 1000 of an image from there on; whether a difference is shown.
     fn add(tally: &mut Tally, image: &[u8], room: usize, damage: u32) -> bool {
@@ -91,7 +92,7 @@ mod tests {
             room,
             before: filled(0),
         };
-        let expected = expected(&call, &asked.said());
+        let expected = expected(&call, &said(&asked));
         let mut found = expected;
         found.lent.passed += damage;
         tally.add(&call, expected, found).is_some()

@@ -1,6 +1,7 @@
 //! The sample's files held to its source, the source to the original, and the map to document 01's marking rules.
 
-use host::marking::Map;
+use host::arguments::Map;
+use host::plain::marking::judged;
 use host::sample::source::Source;
 use host::sample::{entries, hold_texts, image, marks, printed};
 use std::fs;
@@ -106,14 +107,14 @@ fn bytes_add_up_to_zero() {
 }
 
 /// What the plain reading of document 01's rules says at origin 0: the number, and the address where it holds.
-fn judged(image: &[u8], marks: &[u8], entries: &[u8]) -> (u8, usize) {
+fn said(image: &[u8], marks: &[u8], entries: &[u8]) -> (u8, usize) {
     let map = Map {
         image,
         origin: 0,
         marks,
         entries,
     };
-    match map.judged() {
+    match judged(&map) {
         Ok(()) => (0, 0),
         Err(refused) => (refused.refusal as u8, refused.address as usize),
     }
@@ -122,7 +123,7 @@ fn judged(image: &[u8], marks: &[u8], entries: &[u8]) -> (u8, usize) {
 #[test]
 fn map_keeps_the_marking_rules() {
     let (rom, map, entries) = (stored("rom"), stored("map"), stored("entries"));
-    assert_eq!(judged(&rom, &map, &entries), (0, 0));
+    assert_eq!(said(&rom, &map, &entries), (0, 0));
 }
 
 /// Every other mark in place of one that belongs to an instruction, and inside or an unknown mark in place of data.
@@ -134,7 +135,7 @@ fn damaged_marks_are_refused() {
         for wrong in 0..=3 {
             map[at] = wrong;
             let data_as_start = right == 0 && wrong == 1;
-            let refused = judged(&rom, &map, &entries) != (0, 0);
+            let refused = said(&rom, &map, &entries) != (0, 0);
             assert!(
                 data_as_start || refused != (wrong == right),
                 "{at:04X} {wrong}"
@@ -149,7 +150,7 @@ fn damaged_marks_are_refused() {
 fn another_map_keeps_the_rules_too() {
     let (rom, mut map, entries) = (stored("rom"), stored("map"), stored("entries"));
     map[0x0007] = 1;
-    assert_eq!(judged(&rom, &map, &entries), (0, 0));
+    assert_eq!(said(&rom, &map, &entries), (0, 0));
 }
 
 #[test]
@@ -159,13 +160,13 @@ fn damaged_entries_are_refused() {
         for wrong in [0x0001_u16, 0x0006, 0x0106, 0x0107, 0xFFFF] {
             let mut damaged = entries.clone();
             damaged[at..at + 2].copy_from_slice(&wrong.to_le_bytes());
-            assert_eq!(judged(&rom, &map, &damaged), (9, wrong as usize));
+            assert_eq!(said(&rom, &map, &damaged), (9, wrong as usize));
         }
     }
     for count in [0, 1, entries.len() - 1] {
-        assert_eq!(judged(&rom, &map, &entries[..count]), (7, 0));
+        assert_eq!(said(&rom, &map, &entries[..count]), (7, 0));
     }
-    assert_eq!(judged(&rom, &map, &[0; 514]), (7, 0));
+    assert_eq!(said(&rom, &map, &[0; 514]), (7, 0));
 }
 
 /// An address in the ROM, a wrong byte there, and what the rules say then.
@@ -185,8 +186,8 @@ fn damaged_roms_are_refused() {
     for (at, wrong, expected) in DAMAGED_ROMS {
         let mut damaged = rom.clone();
         damaged[at] = wrong;
-        assert_eq!(judged(&damaged, &map, &entries), expected, "{at:04X}");
+        assert_eq!(said(&damaged, &map, &entries), expected, "{at:04X}");
     }
-    assert_eq!(judged(&rom[1..], &map, &entries), (6, 0));
-    assert_eq!(judged(&[], &[], &entries), (5, 0));
+    assert_eq!(said(&rom[1..], &map, &entries), (6, 0));
+    assert_eq!(said(&[], &[], &entries), (5, 0));
 }

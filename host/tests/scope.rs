@@ -1,10 +1,12 @@
 //! The original's answers against document 01, worked out by hand.
 
-use host::answer::{decoded, Refusal};
+use host::answer::Refusal;
+use host::answer::TEXT_MAX;
 use host::function::Function::{FullText, Record, Text};
-use host::function::TEXT_MAX;
 use host::original::disas;
 use host::pages::{edged, ED_BEHIND, PAGES};
+use host::plain::decoded;
+use host::plain::said::said_of_bytes;
 use std::panic::catch_unwind;
 
 /// The row; its bytes; length and instruction, three operand places, data, T-states, machine cycles.
@@ -34,7 +36,7 @@ fn bytes(text: &str) -> Vec<u8> {
 fn starred_rows() {
     for row in STARRED_DONE.lines() {
         let fields: Vec<&str> = row.split('|').collect();
-        let said = Record.said(&bytes(fields[1]));
+        let said = said_of_bytes(Record, &bytes(fields[1]));
         assert_eq!(said, Ok(bytes(fields[2])), "{row}");
     }
     assert_eq!(decoded(&[0xDD, 0x23, 0x00]), Err(Refusal::Short));
@@ -64,8 +66,16 @@ fn texts() {
         let (ins, text) = row.split_once('|').unwrap();
         let plain = text.trim_start().replace('>', "\t");
         let full = format!("{} \t\t{plain}", ins.trim_end());
-        assert_eq!(Text.said(&bytes(ins)), Ok(plain.into_bytes()), "{row}");
-        assert_eq!(FullText.said(&bytes(ins)), Ok(full.into_bytes()), "{row}");
+        assert_eq!(
+            said_of_bytes(Text, &bytes(ins)),
+            Ok(plain.into_bytes()),
+            "{row}"
+        );
+        assert_eq!(
+            said_of_bytes(FullText, &bytes(ins)),
+            Ok(full.into_bytes()),
+            "{row}"
+        );
     }
 }
 
@@ -73,7 +83,7 @@ fn texts() {
 fn longest_text() {
     let pages = PAGES.iter().chain(&ED_BEHIND);
     let inputs = pages.flat_map(|prefix| edged(prefix, 4));
-    let lengths = inputs.map(|ins| FullText.said(&ins).unwrap().len());
+    let lengths = inputs.map(|ins| said_of_bytes(FullText, &ins).unwrap().len());
     assert_eq!(lengths.max(), Some(TEXT_MAX));
 }
 

@@ -1,25 +1,26 @@
 //! Holds the exported functions to the original. The words of the command line run the bridge, where there is one.
 
+use host::caller::Caller;
 use host::calls::Calls;
-use host::exported::Exported;
 use host::outcome::{expected, filled, Call};
+use host::plain::said::said;
 use host::runs::{all_calls, groups, Group};
 use host::tally::Tally;
 use std::process::ExitCode;
 use std::{env, io};
 
 /// Makes these calls. The original is asked once for all rooms.
-fn make(calls: &Calls, exported: &mut Exported, tally: &mut Tally) -> io::Result<()> {
+fn make(calls: &Calls, caller: &mut Caller, tally: &mut Tally) -> io::Result<()> {
     let mut fills = (0..).map(filled);
     for asked in calls.asked() {
-        let said = asked.said();
+        let said = said(&asked);
         for (room, before) in calls.rooms.iter().zip(&mut fills) {
             let call = Call {
                 asked: &asked,
                 room: *room as usize,
                 before,
             };
-            let found = exported.call(&call)?;
+            let found = caller.call(&call)?;
             if let Some(text) = tally.add(&call, expected(&call, &said), found) {
                 println!("{text}");
             }
@@ -29,12 +30,12 @@ fn make(calls: &Calls, exported: &mut Exported, tally: &mut Tally) -> io::Result
 }
 
 /// Makes all calls of one function, and prints what they came to.
-fn compare_group(group: Group, exported: &mut Exported) -> io::Result<Tally> {
+fn compare_group(group: Group, caller: &mut Caller) -> io::Result<Tally> {
     let (function, mut tally) = (group.function, Tally::default());
     for (name, run) in group.runs {
         let earlier = tally.calls;
         for calls in run {
-            make(&calls, exported, &mut tally)?;
+            make(&calls, caller, &mut tally)?;
         }
         let calls = tally.calls - earlier;
         println!("compare: {calls:>9} calls: {function}: {name}");
@@ -46,11 +47,11 @@ fn compare_group(group: Group, exported: &mut Exported) -> io::Result<Tally> {
 
 /// Makes all calls. Whether none differs, and every answer that a function has was met.
 fn compare(words: &[String]) -> io::Result<bool> {
-    let mut exported = Exported::start(words, all_calls)?;
+    let mut caller = Caller::start(words, all_calls)?;
     let (mut calls, mut differing, mut complete) = (0, 0, true);
     for group in groups() {
         let (function, to_meet, at_least) = (group.function, group.to_meet, group.at_least);
-        let tally = compare_group(group, &mut exported)?;
+        let tally = compare_group(group, &mut caller)?;
         calls += tally.calls;
         differing += tally.differing;
         for met in tally.missing(to_meet, at_least) {
@@ -58,7 +59,7 @@ fn compare(words: &[String]) -> io::Result<bool> {
             complete = false;
         }
     }
-    exported.finish()?;
+    caller.finish()?;
     println!("compare: {calls:>9} calls in all, {differing} differ");
     Ok(differing == 0 && complete)
 }

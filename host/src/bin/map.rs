@@ -3,8 +3,8 @@
 
 use host::answer::name;
 use host::asked::Asked;
+use host::caller::Caller;
 use host::calls::Calls;
-use host::exported::Exported;
 use host::maps::Drawn;
 use host::outcome::{filled, Call};
 use std::process::ExitCode;
@@ -23,15 +23,15 @@ fn origin(word: &str) -> Option<u16> {
 /// The number and the address of the exported function.
 fn checked(drawn: &Drawn, bridge: &[String]) -> io::Result<(u8, u32)> {
     let calls = Calls::of_map(drawn.clone());
-    let mut exported = Exported::start(bridge, || Box::new([calls].into_iter()))?;
+    let mut caller = Caller::start(bridge, || Box::new([calls].into_iter()))?;
     let asked = Asked::Map(drawn.map());
     let call = Call {
         asked: &asked,
         room: 0,
         before: filled(0),
     };
-    let outcome = exported.call(&call)?;
-    exported.finish()?;
+    let outcome = caller.call(&call)?;
+    caller.finish()?;
     Ok((outcome.number, outcome.lent.address))
 }
 

@@ -4,6 +4,7 @@
 use host::calls::Inputs;
 use host::outcome::expected;
 use host::piped::Piped;
+use host::plain::said::said;
 use host::staged::{call, outcome, request, runs};
 use host::tally::Tally;
 use std::process::ExitCode;
@@ -14,7 +15,7 @@ fn hold(inputs: &Inputs, program: &mut Piped, tally: &mut Tally) -> io::Result<(
     for asked in inputs.asked() {
         let call = call(&asked);
         let found = outcome(program.read()?);
-        if let Some(text) = tally.add(&call, expected(&call, &asked.said()), found) {
+        if let Some(text) = tally.add(&call, expected(&call, &said(&asked)), found) {
             println!("{text}");
         }
     }

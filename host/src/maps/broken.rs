@@ -2,9 +2,9 @@
 
 use crate::answer::Refusal::{self, *};
 use crate::answer::REFUSALS;
-use crate::listing::ADDRESSES;
+use crate::arguments::ADDRESSES;
+use crate::arguments::{ENTRIES, PAIR};
 use crate::maps::{pairs, Drawn};
-use crate::marking::{ENTRIES, PAIR};
 use crate::mixed::Mixed;
 
 /// The rules of the map check, in the order of their numbers.
@@ -141,6 +141,7 @@ fn overwrite(part: &mut [u8], at: usize, bytes: &[u8]) {
 mod tests {
     use super::*;
     use crate::maps::grown::{grown, RET};
+    use crate::plain::marking::holding;
 
     /// A map of RETs and data that passes.
     fn map() -> Drawn {
@@ -151,7 +152,7 @@ mod tests {
 
     fn holds(rule: Refusal, drawn: &Drawn) -> bool {
         let map = drawn.map();
-        let mut holding = map.holding();
+        let mut holding = holding(&map);
         holding.any(|refused| refused.refusal == rule)
     }
 

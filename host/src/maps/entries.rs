@@ -1,9 +1,9 @@
 //! Maps that differ in their entries alone.
 
-use crate::listing::ADDRESSES;
+use crate::arguments::ADDRESSES;
+use crate::arguments::{DATA, START};
 use crate::maps::grown::RET;
 use crate::maps::{pairs, Drawn};
-use crate::marking::{DATA, START};
 use crate::mixed::Mixed;
 
 /// How many entries there may be, too few and too many; then numbers that come to 0 and 1 in 16 bits.
@@ -71,11 +71,12 @@ fn from(entries: Vec<u8>) -> Drawn {
 #[cfg(test)]
 mod tests {
     use super::*;
+    use crate::plain::marking::judged;
 
     /// By count: whole and wrong entries, each without half a pair and with it.
     #[test]
     fn by_hand() {
-        let said = entry_maps().map(|drawn| match drawn.map().judged() {
+        let said = entry_maps().map(|drawn| match judged(&drawn.map()) {
             Ok(()) => (0, 0),
             Err(refused) => (refused.refusal as u8, refused.address),
         });

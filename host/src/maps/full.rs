@@ -1,12 +1,12 @@
 //! Maps of all addresses, where places wrap and windows do not.
 
-use crate::listing::ADDRESSES;
+use crate::arguments::ADDRESSES;
+use crate::arguments::{ENTRIES, START};
 use crate::maps::broken::damaged;
 use crate::maps::flowing::flowing_code;
 use crate::maps::grown::{overgrown, RET};
 use crate::maps::lone::lone;
 use crate::maps::{pairs, Drawn};
-use crate::marking::{ENTRIES, START};
 use crate::mixed::Mixed;
 
 /// How many full maps there are, and damaged copies of each.
@@ -108,11 +108,12 @@ pub fn sizes() -> impl Iterator<Item = Drawn> {
 #[cfg(test)]
 mod tests {
     use super::*;
+    use crate::plain::marking::judged;
 
     #[test]
     fn full_map_passes() {
         let drawn = full_map(0x5A80_6536);
-        assert_eq!(drawn.map().judged(), Ok(()));
+        assert_eq!(judged(&drawn.map()), Ok(()));
         assert!(drawn.image.len() == ADDRESSES && drawn.entries.len() == 512);
         let starts = drawn.marks.iter().filter(|mark| **mark == START).count();
         assert!((20_000..50_000).contains(&starts), "{starts}");

@@ -1,11 +1,11 @@
 //! Maps grown by following an image's code from entries.
 
-use crate::answer::decoded;
-use crate::flow::next_places;
-use crate::listing::window;
+use crate::arguments::{DATA, INSIDE, START};
 use crate::maps::{pairs, Drawn};
-use crate::marking::{DATA, INSIDE, START};
 use crate::original::OpCode;
+use crate::plain::decoded;
+use crate::plain::flow::next_places;
+use crate::plain::listing::window;
 
 /// What a row becomes that does not fit the map around it: RET, which has one byte and no next place.
 pub const RET: u8 = 0xC9;
@@ -138,6 +138,7 @@ mod tests {
     use super::*;
     use crate::maps::flowing::{code_bytes, flowing_code, KINDS};
     use crate::mixed::Mixed;
+    use crate::plain::marking::judged;
 
     #[test]
     fn by_hand() {
@@ -175,9 +176,9 @@ mod tests {
             };
             let entries = [mixed.below(count) as u16];
             let full = overgrown(image.clone(), 0, &entries);
-            assert!(full.map().judged().is_ok() && !full.marks.contains(&DATA));
+            assert!(judged(&full.map()).is_ok() && !full.marks.contains(&DATA));
             let drawn = grown(image, 0, &entries);
-            assert_eq!(drawn.map().judged(), Ok(()), "{drawn:02X?}");
+            assert_eq!(judged(&drawn.map()), Ok(()), "{drawn:02X?}");
             for (kind, codes) in KINDS.iter().enumerate() {
                 met[kind] += starts_with(&drawn, codes);
             }

@@ -1,8 +1,8 @@
 //! A row alone in an image of RETs, with the marks that it asks for, and with each of them changed.
 
+use crate::arguments::{DATA, INSIDE, START};
 use crate::maps::grown::{followed, RET};
 use crate::maps::Drawn;
-use crate::marking::{DATA, INSIDE, START};
 
 /// The row at an address of an image of so many bytes, which may end before the row does; then, each by itself, every mark
 /// that it asks for changed both ways, and an inside mark behind it.
@@ -32,6 +32,7 @@ fn marked(drawn: &Drawn, place: usize, mark: u8) -> Drawn {
 #[cfg(test)]
 mod tests {
     use super::*;
+    use crate::plain::marking::judged;
 
     #[test]
     fn by_hand() {
@@ -48,7 +49,7 @@ mod tests {
             &[1, 2, 2, 1],
         ];
         assert_eq!(marks, expected);
-        let numbers = maps.iter().map(|map| map.map().judged());
+        let numbers = maps.iter().map(|map| judged(&map.map()));
         let numbers =
             numbers.map(|judged| judged.map_or_else(|refused| refused.refusal as u8, |()| 0));
         assert!(numbers.eq([0, 9, 9, 11, 11, 13, 13, 12]));

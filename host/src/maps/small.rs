@@ -1,12 +1,12 @@
 //! Maps of small images of every kind: with every marking, with random marks, grown, damaged, and with rules broken.
 
+use crate::arguments::ADDRESSES;
+use crate::arguments::{DATA, INSIDE, START};
 use crate::images::mixed_code;
-use crate::listing::ADDRESSES;
 use crate::maps::broken::{break_rule, damaged, rules};
 use crate::maps::flowing::flowing_code;
 use crate::maps::grown::{followed, grown, overgrown};
 use crate::maps::{pairs, Drawn};
-use crate::marking::{DATA, INSIDE, START};
 use crate::mixed::Mixed;
 
 /// The longest image with every marking, and how many there are of each length.
@@ -155,6 +155,7 @@ pub fn broken_maps() -> impl Iterator<Item = Drawn> {
 #[cfg(test)]
 mod tests {
     use super::*;
+    use crate::plain::marking::judged;
 
     #[test]
     fn marks_by_hand() {
@@ -181,7 +182,7 @@ mod tests {
     fn shares() {
         let passing = |maps: &mut dyn Iterator<Item = Drawn>| {
             let maps = maps.take(2000);
-            maps.filter(|drawn| drawn.map().judged().is_ok()).count()
+            maps.filter(|drawn| judged(&drawn.map()).is_ok()).count()
         };
         let (grown, damaged) = (passing(&mut grown_maps()), passing(&mut damaged_maps()));
         assert!(grown > 1700 && grown < 2000, "{grown}");

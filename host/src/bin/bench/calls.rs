@@ -3,10 +3,13 @@
 use crate::inputs::{Input, Inputs};
 use crate::rounds::{take, times};
 use crate::table::Table;
+use host::answer::RECORD_SIZE;
+use host::answer::TEXT_MAX;
 use host::exported::{z80_full_text, z80_record, z80_text};
-use host::function::{Function, TEXT_MAX};
+use host::function::Function;
 use host::original::disas;
-use host::record::{record, RECORD_SIZE};
+use host::plain::record::record;
+use host::plain::said::said_of_bytes;
 use std::hint::black_box;
 
 /// A function, its work through the archive, and the same work by the original.
@@ -82,7 +85,7 @@ pub fn time(inputs: &Inputs, table: &mut Table) {
     );
     for pair in &PAIRS {
         for ins in rows {
-            let said = pair.function.said(ins);
+            let said = said_of_bytes(pair.function, ins);
             assert_eq!(Ok(written(pair.function, ins)), said, "{ins:02X?}");
         }
         let times = times(

@@ -1,9 +1,9 @@
 //! What is worked on: of each kind of bytes some inputs of four bytes, and an image.
 
-use host::answer::LARGEST_INPUT;
 use host::images::{all_pages, length, mixed_code};
 use host::mixed::Mixed;
 use host::pages::{row, ED_BEHIND, PAGES};
+use host::plain::LARGEST_INPUT;
 
 /// The largest image that the listing program takes.
 const IMAGE: usize = 32_768;

@@ -3,9 +3,11 @@
 use crate::inputs::Inputs;
 use crate::rounds::{take, times};
 use crate::table::Table;
+use host::answer::LINE_MAX;
+use host::arguments::Place;
 use host::exported::z80_row;
-use host::listing::{window, Place, LINE_MAX};
 use host::original::disas;
+use host::plain::listing::window;
 use std::hint::black_box;
 
 /// The image's lines from 0 on, each by way of one lent buffer.

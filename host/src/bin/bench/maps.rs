@@ -3,11 +3,12 @@
 use crate::inputs::mixed_image;
 use crate::rounds::{take, times};
 use crate::table::Table;
+use host::arguments::{Map, START};
 use host::exported::z80_map_check;
 use host::maps::full::full_map;
 use host::maps::grown::overgrown;
 use host::maps::Drawn;
-use host::marking::{Map, START};
+use host::plain::marking::judged;
 use std::hint::black_box;
 
 /// Number and address.
@@ -19,13 +20,13 @@ fn ours(map: &Map) -> (u8, u32) {
 
 fn time(name: &str, drawn: &Drawn, table: &mut Table) {
     let map = drawn.map();
-    assert_eq!(map.judged(), Ok(()), "{name}");
+    assert_eq!(judged(&map), Ok(()), "{name}");
     assert_eq!(ours(&map), (0, 0), "{name}");
     let starts = map.marks.iter().filter(|mark| **mark == START).count();
     let times = times(
         starts,
         || take(ours(black_box(&map))),
-        || take(black_box(&map).judged()),
+        || take(judged(black_box(&map))),
     );
     let (bytes, whole) = (map.image.len(), times.whole(starts));
     println!("bench: {name}, {bytes} bytes, {starts} starts: {whole}");

@@ -1,10 +1,13 @@
 //! What a call leaves in the places lent to it, and what the original has it leave.
 
 use crate::block::bytes;
-use host::answer::{decoded, Refusal};
-use host::function::{Function, TEXT_MAX};
+use host::answer::Refusal;
+use host::answer::RECORD_SIZE;
+use host::answer::TEXT_MAX;
+use host::function::Function;
 use host::original::OpCode;
-use host::record::RECORD_SIZE;
+use host::plain::decoded;
+use host::plain::said::write;
 use std::fmt;
 
 /// The bytes that are looked at: the room lent, and some behind it.
@@ -38,7 +41,7 @@ impl Left {
     fn written(function: Function, opcode: OpCode) -> Result<Left, Refusal> {
         let (mut lent, room) = ([FILL; LENT], room(function));
         let mut rest = &mut lent[..room];
-        let written = function.write(opcode, &mut rest);
+        let written = write(function, opcode, &mut rest);
         let count = room - rest.len();
         match written {
             Ok(()) => Ok(Left::new(function, 0, count as u32, lent)),

@@ -1,22 +1,9 @@
 //! The rows of an image, as document 01's 'Listing' says, in the original's own words.
 
-use crate::answer::{Refusal, LARGEST_INPUT};
-use crate::function::TEXT_MAX;
+use super::LARGEST_INPUT;
+use crate::answer::Refusal;
+use crate::arguments::{Place, ADDRESSES};
 use crate::original::disas;
-
-/// The bytes of a whole address space, past whose end no image may reach.
-pub const ADDRESSES: usize = 65_536;
-
-/// The longest line: address, space, full text, LF.
-pub const LINE_MAX: usize = 4 + 1 + TEXT_MAX + 1;
-
-/// An image that begins at an origin, and the address where a row is asked for.
-#[derive(Debug, Clone, Copy)]
-pub struct Place<'a> {
-    pub image: &'a [u8],
-    pub origin: u16,
-    pub address: u16,
-}
 
 /// A line, and how many bytes further the next row begins.
 #[derive(Debug, PartialEq, Eq, Clone)]
@@ -25,30 +12,28 @@ pub struct Row {
     pub passed: usize,
 }
 
-impl Place<'_> {
-    /// The row here. Where the original gives no record of the bytes, the first of them is shown and passed.
-    pub fn row(&self) -> Result<Row, Refusal> {
-        let window = self.window()?;
-        let (text, passed) = match disas(window) {
-            Some(opcode) => (format!("{opcode:?}"), opcode.length as usize),
-            None => (format!("{:02X} \t\t?", window[0]), 1),
-        };
-        let line = format!("{:04X} {text}\n", self.address).into_bytes();
-        Ok(Row { line, passed })
-    }
+/// The row at a place. Where the original gives no record of the bytes, the first of them is shown and passed.
+pub fn row(place: &Place) -> Result<Row, Refusal> {
+    let window = window_at(place)?;
+    let (text, passed) = match disas(window) {
+        Some(opcode) => (format!("{opcode:?}"), opcode.length as usize),
+        None => (format!("{:02X} \t\t?", window[0]), 1),
+    };
+    let line = format!("{:04X} {text}\n", place.address).into_bytes();
+    Ok(Row { line, passed })
+}
 
-    /// What is looked at here; or the refusal, of the image before the address.
-    fn window(&self) -> Result<&[u8], Refusal> {
-        let (origin, address) = (self.origin as usize, self.address as usize);
-        let end = origin + self.image.len();
-        if self.image.is_empty() || end > ADDRESSES {
-            return Err(Refusal::ImageSize);
-        }
-        if address < origin || address >= end {
-            return Err(Refusal::Nothing);
-        }
-        Ok(window(self.image, address - origin))
+/// What is looked at there; or the refusal, of the image before the address.
+fn window_at<'a>(place: &Place<'a>) -> Result<&'a [u8], Refusal> {
+    let (origin, address) = (place.origin as usize, place.address as usize);
+    let end = origin + place.image.len();
+    if place.image.is_empty() || end > ADDRESSES {
+        return Err(Refusal::ImageSize);
     }
+    if address < origin || address >= end {
+        return Err(Refusal::Nothing);
+    }
+    Ok(window(place.image, address - origin))
 }
 
 /// The bytes that are looked at for a row: at most four, none past the image's end.
@@ -65,7 +50,7 @@ pub fn listing(image: &[u8], origin: u16) -> Result<Vec<Row>, Refusal> {
             origin,
             address: origin + at as u16,
         };
-        let row = place.row()?;
+        let row = row(&place)?;
         at += row.passed;
         rows.push(row);
         if at >= image.len() {
@@ -77,6 +62,7 @@ pub fn listing(image: &[u8], origin: u16) -> Result<Vec<Row>, Refusal> {
 #[cfg(test)]
 mod tests {
     use super::*;
+    use crate::answer::LINE_MAX;
 
     const EXAMPLE: [u8; 7] = [0x21, 0x34, 0x12, 0x3E, 0x05, 0xDD, 0x23];
 
@@ -86,7 +72,7 @@ mod tests {
             origin,
             address,
         };
-        place.row()
+        super::row(&place)
     }
 
     fn done(line: &str, passed: usize) -> Result<Row, Refusal> {

@@ -1,61 +1,31 @@
 //! The map check, read plainly: where each of document 01's rules 5 to 13 holds, and which of them is answered. The decoder
 //! is the original's; each start is decoded once, before the rules of rows.
 
-use crate::answer::{decoded, Refusal};
-use crate::flow::next_places;
-use crate::listing::{window, ADDRESSES};
+use super::decoded;
+use super::flow::next_places;
+use super::listing::window;
+use crate::answer::Refusal::*;
+use crate::answer::Refused;
+use crate::arguments::{Map, ADDRESSES, ENTRIES, INSIDE, PAIR, START};
 use crate::original::OpCode;
 use std::iter;
-use Refusal::*;
 
-/// The most entries, and the bytes of each.
-pub const ENTRIES: usize = 256;
-pub const PAIR: usize = 2;
-
-/// The marks.
-pub const DATA: u8 = 0;
-pub const START: u8 = 1;
-pub const INSIDE: u8 = 2;
-
-/// An image that begins at an origin, its marks, and its entries as byte pairs, low byte first.
-#[derive(Debug, Clone, Copy, PartialEq, Eq)]
-pub struct Map<'a> {
-    pub image: &'a [u8],
-    pub origin: u16,
-    pub marks: &'a [u8],
-    pub entries: &'a [u8],
+/// What the map check should answer: of all that holds the first.
+pub fn judged(map: &Map) -> Result<(), Refused> {
+    holding(map).next().map_or(Ok(()), Err)
 }
 
-/// Why a map is refused, and the address that is told with it.
-#[derive(Debug, PartialEq, Eq, Clone, Copy)]
-pub struct Refused {
-    pub refusal: Refusal,
-    pub address: u16,
+/// 5, 6, 7, 8, 9 in that order, then the lowest address where any of 10 to 13 holds and there the lowest number. For 8 the
+/// lowest such address, for 9 the first such entry in list order. The starts are decoded when 10 is come to.
+pub fn holding<'a>(map: &'a Map) -> impl Iterator<Item = Refused> + 'a {
+    let sizes = map.wrong_sizes();
+    let marks = sizes.chain(map.wrong_marks());
+    let entries = marks.chain(map.wrong_entries());
+    entries.chain(iter::once_with(|| map.wrong_rows()).flatten())
 }
 
-/// A refusal that has no address.
-impl From<Refusal> for Refused {
-    fn from(refusal: Refusal) -> Refused {
-        let address = 0;
-        Refused { refusal, address }
-    }
-}
-
+/// The rules, for this module alone.
 impl Map<'_> {
-    /// What the map check answers: of all that holds the first.
-    pub fn judged(&self) -> Result<(), Refused> {
-        self.holding().next().map_or(Ok(()), Err)
-    }
-
-    /// 5, 6, 7, 8, 9 in that order, then the lowest address where any of 10 to 13 holds and there the lowest number. For 8
-    /// the lowest such address, for 9 the first such entry in list order. The starts are decoded when 10 is come to.
-    pub fn holding(&self) -> impl Iterator<Item = Refused> + '_ {
-        let sizes = self.wrong_sizes();
-        let marks = sizes.chain(self.wrong_marks());
-        let entries = marks.chain(self.wrong_entries());
-        entries.chain(iter::once_with(|| self.wrong_rows()).flatten())
-    }
-
     /// 5 to 7, which have no address.
     fn wrong_sizes(&self) -> impl Iterator<Item = Refused> {
         let image = self.image_size().then_some(ImageSize);
@@ -225,7 +195,7 @@ mod tests {
     }
 
     fn number(map: Map) -> (u8, u16) {
-        match map.judged() {
+        match judged(&map) {
             Ok(()) => (0, 0),
             Err(Refused { refusal, address }) => (refusal as u8, address),
         }

@@ -1,9 +1,7 @@
 //! A record of the original as the 22 bytes that pass to a host.
 
+use crate::answer::RECORD_SIZE;
 use crate::original::{OpCode, Operand, RegI};
-
-/// Length, instruction, three operand places of three bytes, four data bytes, six T-states, machine cycles.
-pub const RECORD_SIZE: usize = 22;
 
 /// The record's bytes; the instruction is its place in the original's enum.
 pub fn record(opcode: OpCode) -> [u8; RECORD_SIZE] {

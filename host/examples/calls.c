@@ -1,0 +1,68 @@
+// Calls each function of z80.h and holds what it answers to what it should. Ends with 0, or with the number of the first case
+// that is wrong. C99 and C++.
+#include "z80.h"
+
+static const uint8_t image[] = {0x21, 0x34, 0x12, 0x3E, 0x05, 0xDD, 0x23};
+static uint8_t out[Z80_LINE_MAX];
+
+// Whether the front of `out` is a text, of so many bytes.
+static int is_written(const char *text, uint32_t count) {
+    uint32_t at = 0;
+    while (at < count && out[at] == (uint8_t)text[at]) at++;
+    return at == count && text[at] == 0;
+}
+
+static int record_is_right(void) {
+    static const uint8_t jump[] = {0x18, 0x80}; // JR -126, in three machine cycles of 4, 3 and 5 T-states
+    uint8_t record[Z80_RECORD_SIZE];
+    if (z80_record(jump, sizeof jump, record, sizeof record) != Z80_DONE) return 0;
+    return record[0] == 2 && record[15] == 4 && record[16] == 3 && record[17] == 5 && record[21] == 3;
+}
+
+static int texts_are_right(void) {
+    uint32_t count;
+    if (z80_text(image, 3, out, Z80_TEXT_MAX, &count) != Z80_DONE) return 0;
+    if (!is_written("LD\tHL, 1234 [4, 3, 3, 0, 0, 0]", count)) return 0;
+    if (z80_full_text(image, 3, out, Z80_TEXT_MAX, &count) != Z80_DONE) return 0;
+    return is_written("21 34 12 \t\tLD\tHL, 1234 [4, 3, 3, 0, 0, 0]", count);
+}
+
+static int refusals_are_right(void) {
+    uint32_t count;
+    if (z80_text(NULL, 0, out, sizeof out, &count) != Z80_NOTHING) return 0;
+    if (z80_text(image, 2, out, sizeof out, &count) != Z80_SHORT) return 0;
+    if (z80_text(image, 5, out, sizeof out, &count) != Z80_LONG) return 0;
+    return z80_text(image, 3, NULL, 0, &count) == Z80_NO_ROOM && count == 0;
+}
+
+// The rows of the image from address ABCD on: there are four.
+static int rows_are_right(void) {
+    uint32_t count, passed, rows = 0, at = 0;
+    while (at < sizeof image) {
+        uint16_t address = (uint16_t)(0xABCD + at);
+        if (z80_row(image, sizeof image, 0xABCD, address, out, sizeof out, &count, &passed) != Z80_DONE) return 0;
+        if (at == 5 && !is_written("ABD2 DD \t\t?\n", count)) return 0;
+        at += passed;
+        rows++;
+    }
+    return rows == 4 && is_written("ABD3 23 \t\tINC\tHL [6, 0, 0, 0, 0, 0]\n", count);
+}
+
+// JR to itself, and JR into its own second byte, entered at 1234.
+static int maps_are_right(void) {
+    static const uint8_t loop[] = {0x18, 0xFE}, wrong[] = {0x18, 0xFF};
+    static const uint8_t marks[] = {Z80_START, Z80_INSIDE}, entries[] = {0x34, 0x12};
+    uint32_t address;
+    uint8_t number = z80_map_check(loop, sizeof loop, 0x1234, marks, sizeof marks, entries, sizeof entries, &address);
+    if (number != Z80_DONE || address != 0) return 0;
+    number = z80_map_check(wrong, sizeof wrong, 0x1234, marks, sizeof marks, entries, sizeof entries, &address);
+    return number == Z80_BAD_NEXT && address == 0x1234;
+}
+
+int main(void) {
+    if (!record_is_right()) return 1;
+    if (!texts_are_right()) return 2;
+    if (!refusals_are_right()) return 3;
+    if (!rows_are_right()) return 4;
+    return maps_are_right() ? 0 : 5;
+}

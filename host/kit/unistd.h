@@ -1,0 +1,4 @@
+// Stands for the header of this name: the kit's compiler has none at hand.
+typedef __PTRDIFF_TYPE__ ssize_t;
+ssize_t read(int, void *, __SIZE_TYPE__);
+ssize_t write(int, const void *, __SIZE_TYPE__);

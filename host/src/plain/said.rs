@@ -1,0 +1,53 @@
+//! What the original, or the plain reading where the original has nothing, would have a function write.
+
+use super::decoded;
+use super::listing::row;
+use super::marking::judged;
+use super::record::record;
+use crate::answer::{Refusal, Refused};
+use crate::asked::Asked;
+use crate::function::Function;
+use crate::original::OpCode;
+use std::io::{self, Write};
+
+/// What is written where there is room for it: bytes to the lent buffer, and the bytes passed where the function says them.
+pub struct Written {
+    pub bytes: Vec<u8>,
+    pub passed: usize,
+}
+
+/// What is written, or the refusal that comes before the room is looked at. A map check writes no bytes.
+pub type Said = Result<Written, Refused>;
+
+pub fn said(asked: &Asked) -> Said {
+    let (bytes, passed) = match asked {
+        Asked::Bytes(function, ins) => (said_of_bytes(*function, ins)?, 0),
+        Asked::Row(place) => {
+            let row = row(place)?;
+            (row.line, row.passed)
+        }
+        Asked::Map(map) => {
+            judged(map)?;
+            (vec![], 0)
+        }
+    };
+    Ok(Written { bytes, passed })
+}
+
+/// What the original says of some bytes.
+pub fn said_of_bytes(function: Function, ins: &[u8]) -> Result<Vec<u8>, Refusal> {
+    let opcode = decoded(ins)?;
+    let mut said = vec![];
+    let written = write(function, opcode, &mut said);
+    written.expect("a Vec takes every byte");
+    Ok(said)
+}
+
+/// Writes the original's record, its Display or its Debug; an error where there is no room for it.
+pub fn write(function: Function, opcode: OpCode, to: &mut impl Write) -> io::Result<()> {
+    match function {
+        Function::Record => to.write_all(&record(opcode)),
+        Function::Text => write!(to, "{opcode}"),
+        Function::FullText => write!(to, "{opcode:?}"),
+    }
+}

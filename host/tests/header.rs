@@ -1,0 +1,46 @@
+//! The constants of the C header held to those of Rust.
+
+use host::answer::{name, LINE_MAX, RECORD_SIZE, TEXT_MAX};
+use host::arguments::{DATA, INSIDE, START};
+use std::collections::BTreeMap;
+use std::fs;
+
+/// Each constant of the header: its name behind Z80_, and its number.
+fn constants() -> BTreeMap<String, usize> {
+    let header = fs::read_to_string(concat!(env!("CARGO_MANIFEST_DIR"), "/z80.h")).unwrap();
+    let pairs = header.split(['{', '}', ',', '\n']).filter_map(|part| {
+        let (name, number) = part.trim().strip_prefix("Z80_")?.split_once(" = ")?;
+        let number = number.split_whitespace().next()?;
+        Some((name.to_owned(), number.parse().unwrap()))
+    });
+    pairs.collect()
+}
+
+/// EntryCount as ENTRY_COUNT.
+fn spelled(name: &str) -> String {
+    let mut spelled = String::new();
+    for letter in name.chars() {
+        if letter.is_uppercase() && !spelled.is_empty() {
+            spelled.push('_');
+        }
+        spelled.push(letter.to_ascii_uppercase());
+    }
+    spelled
+}
+
+#[test]
+fn constants_are_those_of_rust() {
+    let answers = (0..).map_while(|number| Some((spelled(&name(number)?), number)));
+    let others = [
+        ("RECORD_SIZE", RECORD_SIZE),
+        ("TEXT_MAX", TEXT_MAX),
+        ("LINE_MAX", LINE_MAX),
+        ("DATA", DATA.into()),
+        ("START", START.into()),
+        ("INSIDE", INSIDE.into()),
+    ];
+    let others = others.map(|(name, number)| (name.to_owned(), number));
+    let expected: BTreeMap<String, usize> = answers.chain(others).collect();
+    assert_eq!(expected.len(), 20);
+    assert_eq!(constants(), expected);
+}

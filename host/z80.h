@@ -1,0 +1,68 @@
+// The proved functions of libexports.a, for C and C++. `rt staticlib exports` writes the archive to target/staticlib, for x86-64:
+//     cc -Ihost yours.c target/staticlib/libexports.a
+// A pointer and the length behind it are one part of memory that is lent. No part that is written to may overlap another; one of
+// length 0 may be a null pointer. Nothing is kept beyond a call.
+#ifndef Z80_H
+#define Z80_H
+
+#include <stddef.h>
+#include <stdint.h>
+
+#ifdef __cplusplus
+extern "C" {
+#endif
+
+// What a function answers: the numbers of docs/01-scope.md. From Z80_IMAGE_SIZE on they are of maps; z80_row has it too.
+enum {
+    Z80_DONE = 0,
+    Z80_NOTHING = 1,          // no bytes; for z80_row an address outside the image
+    Z80_SHORT = 2,            // too few bytes for the row that they begin
+    Z80_LONG = 3,             // over four bytes
+    Z80_NO_ROOM = 4,          // what is to be written is longer than what is lent
+    Z80_IMAGE_SIZE = 5,       // an image that is empty or goes beyond address 65,535
+    Z80_MARK_SIZE = 6,        // marks and image differ in length
+    Z80_ENTRY_COUNT = 7,      // no entries, over 256, or half of one
+    Z80_MARK_VALUE = 8,       // a mark over 2
+    Z80_ENTRY_NOT_START = 9,  // an entry outside the image or not marked as a start
+    Z80_UNFINISHED = 10,      // a start whose bytes are no whole row
+    Z80_CLIPPED = 11,         // a later byte of a start's row not marked as inside
+    Z80_STRAY = 12,           // a byte marked as inside that no start's row covers
+    Z80_BAD_NEXT = 13         // a start that leads to a place outside the image or to no start
+};
+
+// The bytes of a record, and the most bytes of a text and of a line. A room of so many is always enough.
+enum { Z80_RECORD_SIZE = 22, Z80_TEXT_MAX = 52, Z80_LINE_MAX = 58 };
+
+// The marks of a map, one for each byte of the image.
+enum { Z80_DATA = 0, Z80_START = 1, Z80_INSIDE = 2 };
+
+// Decodes the row that `ins` is, one to four bytes, and writes its record to the front of `out`: length, instruction, three
+// operands of three bytes, four data bytes, six T-states, machine cycles, as crates/replay/README.md says. Answers Z80_DONE, or
+// Z80_NOTHING, Z80_SHORT, Z80_LONG, Z80_NO_ROOM, and then writes nothing.
+uint8_t z80_record(const uint8_t *ins, size_t ins_len, uint8_t *out, size_t out_len);
+
+// The text of the row that `ins` is, such as "LD\tHL, 1234 [4, 3, 3, 0, 0, 0]", to the front of `out`, and its length to `count`.
+// No zero byte ends it. Answers as z80_record does; where that is not Z80_DONE, `count` is 0 and `out` as it was.
+uint8_t z80_text(const uint8_t *ins, size_t ins_len, uint8_t *out, size_t out_len, uint32_t *count);
+
+// The same with the row's bytes in front: "21 34 12 \t\tLD\tHL, 1234 [4, 3, 3, 0, 0, 0]".
+uint8_t z80_full_text(const uint8_t *ins, size_t ins_len, uint8_t *out, size_t out_len, uint32_t *count);
+
+// The line of the row at `address`, in an image whose first byte stands at `origin`: the address, a space, the full text and LF
+// to the front of `out`, its length to `count`, and to `passed` how many bytes further the next row begins. Where the image ends
+// before its row does, the line has one byte and a question mark. Answers Z80_DONE, or Z80_IMAGE_SIZE, Z80_NOTHING, Z80_NO_ROOM;
+// both numbers are then 0 and `out` as it was.
+uint8_t z80_row(const uint8_t *image, size_t image_len, uint16_t origin, uint16_t address, uint8_t *out, size_t out_len,
+                uint32_t *count, uint32_t *passed);
+
+// Checks a code map: `marks` as above, `entries` the addresses where code is entered, two bytes each, low byte first. Answers
+// Z80_DONE where it keeps the marking rules, or the first rule that is broken, Z80_IMAGE_SIZE to Z80_BAD_NEXT, and writes to
+// `address` where that is; for Z80_DONE and up to Z80_ENTRY_COUNT it is 0.
+uint8_t z80_map_check(const uint8_t *image, size_t image_len, uint16_t origin, const uint8_t *marks, size_t marks_len,
+                      const uint8_t *entries, size_t entries_len, uint32_t *address);
+
+#ifdef __cplusplus
+}
+#endif
+
+#endif
