@@ -6,14 +6,15 @@ ghost use Rattle.wording.specs.Digits.{digit as digitOf, hex8, hex16, digitAt, 
 ghost use Rattle.writer.specs.Wrote.{Wrote};
 use writer::put;
 
-// The digits of hex and of decimal numbers.
-const DIGITS: [u8; 16] = *b"0123456789ABCDEF";
-
+// The digit of a hex or a decimal number, worked out from its value.
 fn digit(n: usize) -> u8
     requires { ⌜ n < 16 ⌝ }
     ensures { λ r. ⌜ r ≡ digitOf n ⌝ }
 {
-    DIGITS[n]
+    if n < 10 {
+        return b'0' + n as u8;
+    }
+    b'A' + (n - 10) as u8
 }
 
 // Two upper-case hex digits.
