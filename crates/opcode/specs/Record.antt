@@ -1,9 +1,8 @@
--- The empty record, six T-state places, and the row time. Definitions only.
+-- The empty record, six T-state places, and their sum. Definitions only.
 use Prim.Native.Nat.{ℕ, _+_}
 use mathlib.Core.List.{List, [], _∷_}
 use lib.ListN.{getD}
 use Rattle.opcode.specs.declared.counts.TStates.{TStates}
-use Rattle.opcode.specs.declared.counts.RowTime.{RowTime}
 use Rattle.opcode.specs.declared.instruction.Instruction.{Instruction}
 use Rattle.opcode.specs.declared.operand.Place.{Place}
 use Rattle.opcode.specs.declared.record.OpCode.{OpCode}
@@ -33,7 +32,3 @@ emptyOf =
 unfoldable pub sum : List TStates → ℕ
 sum [] = 0
 sum (t ∷ ts) = t .0 + sum ts
-
--- the row time: the sum of the six places, also where a place behind the filled ones is not zero
-abbrev pub timeOf : OpCode → RowTime
-timeOf r = record { 0 = sum (r .tstates) }

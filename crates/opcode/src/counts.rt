@@ -1,4 +1,4 @@
-// Three counts that are never added to one another, and the sum of a row's T-states.
+// Three counts that are never added to one another, the time of a row, and how that varies.
 
 // The T-states of one machine cycle.
 pub struct TStates(pub u8);
@@ -9,5 +9,12 @@ pub struct MCycles(pub u8);
 // How many bytes a row is long.
 pub struct Bytes(pub u8);
 
-// The sum of six T-state places, at most 1,530: more than `TStates` holds.
+// The time of a row: at most five more than the sum of six T-state places, 1,530, which is more than `TStates` holds.
 pub struct RowTime(pub u16);
+
+// How the time of a row varies.
+pub enum Pace {
+    Steady,
+    // Five more on each pass but the last.
+    Repeats,
+}

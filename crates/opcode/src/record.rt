@@ -1,14 +1,14 @@
 // The record of a decoded row.
 ghost use mathlib.Core.Path.{_≡_};
-ghost use Prim.Native.Nat.{_≤_, _<_};
-ghost use lib.ListN.{getD};
-ghost use Rattle.opcode.specs.Record.{emptyOf, unfilled, sum, timeOf};
+ghost use Rattle.opcode.specs.Record.{emptyOf};
+ghost use Rattle.opcode.specs.Times.{timeOf};
 use super::counts::Bytes;
 use super::counts::MCycles;
 use super::counts::RowTime;
 use super::counts::TStates;
 use super::instruction::Instruction;
 use super::operand::Place;
+use super::times::most;
 
 // The first `mcycles` of the six T-state places are filled and the rest are zero; `data` is the input, padded with zeros.
 pub struct OpCode {
@@ -48,27 +48,12 @@ impl OpCode {
         }
     }
 
-    // The row time: the sum of the six places, whatever `mcycles` says.
+    // The row time: the most that the row takes, by the six places, whatever `mcycles` says.
     pub fn row_time(self) -> RowTime
         ensures { λ t. ⌜ t ≡ timeOf self ⌝ }
     {
+        let ins = self.ins;
         let t = self.tstates;
-        RowTime(total(t))
+        most(ins, t)
     }
-}
-
-// The sum of six T-state places.
-fn total(t: [TStates; 6]) -> u16
-    ensures { λ r. ⌜ r ≡ sum t ⌝ }
-{
-    at(t, 0) + at(t, 1) + at(t, 2) + at(t, 3) + at(t, 4) + at(t, 5)
-}
-
-// Place k, as a number.
-fn at(t: [TStates; 6], k: usize) -> u16
-    requires { ⌜ k < 6 ⌝ }
-    ensures { λ r. ⌜ (r ≡ getD t k unfilled .0) × (r ≤ 255) ⌝ }
-{
-    let x = t[k];
-    x.0 as u16
 }

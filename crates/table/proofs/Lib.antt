@@ -4,6 +4,7 @@ pub mod Rows
 pub mod Bits
 pub mod Signed
 pub mod Departures
+pub mod Figures
 pub mod Done
 pub mod Sizes
 pub mod Answers

@@ -12,6 +12,7 @@ use Rattle.opcode.specs.declared.counts.TStates.{TStates}
 use Rattle.opcode.specs.declared.instruction.Instruction.{Instruction}
 use Rattle.opcode.specs.declared.record.OpCode.{OpCode}
 use Rattle.opcode.specs.Record.{unfilled, six, sum}
+use Rattle.opcode.specs.Times.{mostOf}
 use Rattle.table.specs.declared.Answer.{Answer}
 use Rattle.table.specs.declared.Decoded.{Decoded}
 use Rattle.table.specs.Row.{Kind, none, Cycles, Row, row, gap, t1, states}
@@ -30,13 +31,13 @@ abbrev filled : List ℕ → Bool
 filled [] = true
 filled (t ∷ ts) = ltb 0 t && filled ts
 
-abbrev timed : List ℕ → Bool
-timed ts = ltb 0 (length ts) && (leb (length ts) 6 && (filled ts && (leb 4 (total ts) && leb (total ts) 23)))
+abbrev timed : Instruction → List ℕ → Bool
+timed i ts = ltb 0 (length ts) && (leb (length ts) 6 && (filled ts && (leb 4 (mostOf i (total ts) .0) && leb (mostOf i (total ts) .0) 23)))
 
--- length 1 to 4, one to six machine cycles, each with T-states, 4 to 23 in all
+-- length 1 to 4, one to six machine cycles, each with T-states, a row time of 4 to 23
 abbrev sized : Row → Bool
 sized gap = true
-sized (row i x y z n t) = leb 1 n && (leb n 4 && timed (oneFigure t))
+sized (row i x y z n t) = leb 1 n && (leb n 4 && timed i (oneFigure t))
 
 abbrev Sized : Row → Type 0
 Sized x = T (sized x)
@@ -96,8 +97,8 @@ added (a ∷ b ∷ c ∷ d ∷ e ∷ f ∷ g ∷ ts) h = absurd (omega arith)
 made-keeps : (ins : Instruction) (x y z : Kind) (n : ℕ) (t : Cycles) (s d : List ℕ) (g : ℕ) → Sized (row ins x y z n t) → n ≤ g → Keeps g (made ins x y z n t s d)
 made-keeps ins x y z n t s d g w h =
     let ts = oneFigure t in
-    let w1 : T (leb n 4 && timed ts) = both-right (leb 1 n) (leb n 4 && timed ts) w in
-    let w2 : T (timed ts) = both-right (leb n 4) (timed ts) w1 in
+    let w1 : T (leb n 4 && timed ins ts) = both-right (leb 1 n) (leb n 4 && timed ins ts) w in
+    let w2 : T (timed ins ts) = both-right (leb n 4) (timed ins ts) w1 in
     let w3 = both-right (ltb 0 (length ts)) _ w2 in
     let w4 = both-right (leb (length ts) 6) _ w3 in
     let w5 = both-right (filled ts) _ w4 in
@@ -105,16 +106,16 @@ made-keeps ins x y z n t s d g w h =
     let six-most : length ts ≤ 6 = leb→le (length ts) 6 (both-left (leb (length ts) 6) _ w3) in
     let room : length (states ts) ≤ 6 = rw (length-states ts) six-most in
     record {
-      length-least = leb→le 1 n (both-left (leb 1 n) (leb n 4 && timed ts) w);
-      length-most = leb→le n 4 (both-left (leb n 4) (timed ts) w1);
+      length-least = leb→le 1 n (both-left (leb 1 n) (leb n 4 && timed ins ts) w);
+      length-most = leb→le n 4 (both-left (leb n 4) (timed ins ts) w1);
       length-given = h;
       cycles-least = some;
       cycles-most = six-most;
       places = refl;
       first-filled = λ k q. subst (λ (m : ℕ). 0 < m) (sym (ap (λ (u : TStates). u .0) (place (states ts) room k) ∙ state ts k)) (fill ts (both-left (filled ts) _ w4) k q);
       rest-zero = λ k q. place (states ts) room k ∙ List·getD-eq-default (states ts) unfilled (rw (length-states ts) q);
-      time-least = rw (added ts six-most) (leb→le 4 (total ts) (both-left (leb 4 (total ts)) _ w5));
-      time-most = rw (added ts six-most) (leb→le (total ts) 23 (both-right (leb 4 (total ts)) _ w5));
+      time-least = rw (added ts six-most) (leb→le 4 (mostOf ins (total ts) .0) (both-left (leb 4 (mostOf ins (total ts) .0)) _ w5));
+      time-most = rw (added ts six-most) (leb→le (mostOf ins (total ts) .0) 23 (both-right (leb 4 (mostOf ins (total ts) .0)) _ w5));
     }
 
 record-keeps : (x : Row) → Sized x → (s d : List ℕ) (g : ℕ) → recordOf x s d .length .0 ≤ g → Keeps g (recordOf x s d)
@@ -124,7 +125,7 @@ record-keeps (row ins x y z n t) w s d g h = made-keeps ins x y z n t s d g w h
 -- four bytes decide any row, and a row is no longer than the bytes that decide it
 row-needs : (x : Row) → Sized x → needed x ≤ 4
 row-needs gap w = omega arith
-row-needs (row ins x y z n t) w = omega (arith, leb→le n 4 (both-left (leb n 4) (timed (oneFigure t)) (both-right (leb 1 n) (leb n 4 && timed (oneFigure t)) w)))
+row-needs (row ins x y z n t) w = omega (arith, leb→le n 4 (both-left (leb n 4) (timed ins (oneFigure t)) (both-right (leb 1 n) (leb n 4 && timed ins (oneFigure t)) w)))
 
 row-length : (x : Row) (s d : List ℕ) → recordOf x s d .length .0 ≤ needed x
 row-length gap s d = omega arith

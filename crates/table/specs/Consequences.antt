@@ -4,16 +4,17 @@ use mathlib.Core.Path.{_≡_}
 use mathlib.Core.Logic.{_⊎_}
 use mathlib.Core.Bool.{Bool, true, false, cond, not, _&&_, _||_}
 use mathlib.Core.List.{List, [], _∷_, _++_}
-use lib.Dec.{eqb, ltb}
+use lib.Dec.{eqb, ltb, leb}
 use lib.IntN.{ℤ, pos, negsuc}
 use lib.ListN.{length, getD}
 use Rattle.opcode.specs.declared.record.OpCode.{OpCode}
-use Rattle.opcode.specs.Record.{unfilled, timeOf}
-use Rattle.table.specs.Row.{always, conditional, repeating, Row, row, gap, is-at-hl}
+use Rattle.opcode.specs.Record.{unfilled}
+use Rattle.opcode.specs.Times.{timeOf}
+use Rattle.table.specs.Row.{Cycles, always, conditional, repeating, Row, row, gap, is-at-hl}
 use Rattle.table.specs.Departures.{oneFigure, afterFirst}
 use Rattle.table.specs.Ed.{ed}
 use Rattle.table.specs.Prefix.{is-hl}
-use Rattle.table.specs.Decode.{pageRow, four, done, decodeOf}
+use Rattle.table.specs.Decode.{pageRow, made, four, done, decodeOf}
 
 -- f's values at the n numbers from i
 abbrev pub values : {A : Type 0} → (ℕ → A) → ℕ → ℕ → List A
@@ -120,6 +121,20 @@ Shows gap = Unit {0}
 Shows (row i x y z n (always ts)) = Unit {0}
 Shows (row i x y z n (conditional met unmet)) = total unmet < total (oneFigure (conditional met unmet))
 Shows (row i x y z n (repeating last again)) = total again ≡ total (oneFigure (repeating last again)) + 5
+
+abbrev pub larger : ℕ → ℕ → ℕ
+larger a b = cond (leb a b) b a
+
+-- the larger of the figures that UM0080 has for a row
+abbrev pub slowest : Cycles → ℕ
+slowest (always ts) = total ts
+slowest (conditional met unmet) = larger (total met) (total unmet)
+slowest (repeating last again) = larger (total last) (total again)
+
+-- that is the row time, whatever bytes s stand behind the code and whatever the data d
+abbrev pub TakesMost : Row → Type 0
+TakesMost gap = Unit {0}
+TakesMost (row i x y z n t) = (s d : List ℕ) → timeOf (made i x y z n t s d) .0 ≡ slowest t
 
 abbrev pub same : List ℕ → List ℕ → Bool
 same [] [] = true
