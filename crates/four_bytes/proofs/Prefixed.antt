@@ -1,17 +1,16 @@
 -- Operands replaced first, then T-states put in, then LD (IX+d),n mended, as the original does it: what the definition has at once.
 -- Assumes nothing.
 use mathlib.Core.Bool.{Bool, true, false, cond}
-use mathlib.Core.List.{List, [], _∷_}
-use mathlib.Core.Path.{_≡_, refl, ap, sym, _∙_}
+use mathlib.Core.List.{[], _∷_}
+use mathlib.Core.Path.{_≡_, refl}
 use Prim.Native.Nat.{ℕ, _+_}
-use Rattle.opcode.specs.declared.counts.TStates.{TStates}
 use Rattle.opcode.specs.declared.operand.Operand.{Operand}
 use Rattle.opcode.specs.declared.operand.Place.{Place}
 use Rattle.opcode.specs.declared.registers.Reg16.{Reg16}
 use Rattle.opcode.specs.declared.record.OpCode.{OpCode}
 use Rattle.opcode.specs.declared.timing.Timing.{Timing}
 use Rattle.opcode.specs.declared.timing.Edited.{Edited}
-use Rattle.opcode.specs.Timing.{filled, listed, no, yes, inserted, mayInsert, insertOf, removeOf}
+use Rattle.opcode.specs.Timing.{filled, listed, no, yes, inserted, mayInsert, insertOf}
 use Rattle.table.specs.Row.{Index, ix, iy}
 use Rattle.table.specs.Steps.{isImm8, replaceAddr, changed, timing, withAddr}
 use Rattle.four_bytes.specs.Replaced.{addrRecord, lengthened, loaded}

@@ -1,6 +1,5 @@
 -- The row time of each line of each page is the larger of UM0080's figures for it.
 -- Assumes nothing.
-use mathlib.Core.Path.{_≡_}
 use mathlib.Core.Bool.{Bool, true}
 use mathlib.Core.List.{List}
 use Prim.Native.Nat.{ℕ}
