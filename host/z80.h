@@ -30,19 +30,21 @@ enum {
     Z80_BAD_NEXT = 13         // a start that leads to a place outside the image or to no start
 };
 
-// The bytes of a record, and the most bytes of a text and of a line. A room of so many is always enough.
-enum { Z80_RECORD_SIZE = 22, Z80_TEXT_MAX = 52, Z80_LINE_MAX = 58 };
+// The bytes of a record, the last two of which, 22 and 23, are the least and the most T-states that the row takes; and the most
+// bytes of a text and of a line. A room of so many is always enough.
+enum { Z80_RECORD_SIZE = 24, Z80_TEXT_MAX = 52, Z80_LINE_MAX = 58 };
 
 // The marks of a map, one for each byte of the image.
 enum { Z80_DATA = 0, Z80_START = 1, Z80_INSIDE = 2 };
 
 // Decodes the row that `ins` is, one to four bytes, and writes its record to the front of `out`: length, instruction, three
-// operands of three bytes, four data bytes, six T-states, machine cycles, as crates/replay/README.md says. Answers Z80_DONE, or
-// Z80_NOTHING, Z80_SHORT, Z80_LONG, Z80_NO_ROOM, and then writes nothing.
+// operands of three bytes, four data bytes, six T-states, machine cycles, least, most, as crates/replay/README.md says. Answers
+// Z80_DONE; or Z80_NOTHING, Z80_SHORT, Z80_LONG, and then writes the empty record, in which all is zero but the instruction, byte
+// 1, which is NOP, 35; or Z80_NO_ROOM. Where fewer than Z80_RECORD_SIZE bytes are lent, nothing is written, whatever it answers.
 uint8_t z80_record(const uint8_t *ins, size_t ins_len, uint8_t *out, size_t out_len);
 
 // The text of the row that `ins` is, such as "LD\tHL, 1234 [4, 3, 3, 0, 0, 0]", to the front of `out`, and its length to `count`.
-// No zero byte ends it. Answers as z80_record does; where that is not Z80_DONE, `count` is 0 and `out` as it was.
+// No zero byte ends it. Answers by the same numbers; where that is not Z80_DONE, `count` is 0 and `out` as it was.
 uint8_t z80_text(const uint8_t *ins, size_t ins_len, uint8_t *out, size_t out_len, uint32_t *count);
 
 // The same with the row's bytes in front: "21 34 12 \t\tLD\tHL, 1234 [4, 3, 3, 0, 0, 0]".

@@ -13,10 +13,24 @@ static int is_written(const char *text, uint32_t count) {
 }
 
 static int record_is_right(void) {
-    static const uint8_t jump[] = {0x18, 0x80}; // JR -126, in three machine cycles of 4, 3 and 5 T-states
+    // JR NZ, -126, in three machine cycles of 4, 3 and 5 T-states; where it does not jump, in 7 T-states
+    static const uint8_t jump[] = {0x20, 0x80};
     uint8_t record[Z80_RECORD_SIZE];
     if (z80_record(jump, sizeof jump, record, sizeof record) != Z80_DONE) return 0;
-    return record[0] == 2 && record[15] == 4 && record[16] == 3 && record[17] == 5 && record[21] == 3;
+    if (record[0] != 2 || record[15] != 4 || record[16] != 3 || record[17] != 5 || record[21] != 3) return 0;
+    return record[22] == 7 && record[23] == 12;
+}
+
+// A refusal gives the empty record, unless there is no room for one.
+static int empty_record_is_right(void) {
+    uint8_t record[Z80_RECORD_SIZE] = {1};
+    if (z80_record(image, 2, record, Z80_RECORD_SIZE - 1) != Z80_SHORT || record[0] != 1) return 0;
+    if (z80_record(image, 3, record, Z80_RECORD_SIZE - 1) != Z80_NO_ROOM || record[0] != 1) return 0;
+    if (z80_record(image, 2, record, Z80_RECORD_SIZE) != Z80_SHORT) return 0;
+    for (size_t at = 0; at < Z80_RECORD_SIZE; at++) {
+        if (record[at] != (at == 1 ? 35 : 0)) return 0;
+    }
+    return 1;
 }
 
 static int texts_are_right(void) {
@@ -61,8 +75,9 @@ static int maps_are_right(void) {
 
 int main(void) {
     if (!record_is_right()) return 1;
-    if (!texts_are_right()) return 2;
-    if (!refusals_are_right()) return 3;
-    if (!rows_are_right()) return 4;
-    return maps_are_right() ? 0 : 5;
+    if (!empty_record_is_right()) return 2;
+    if (!texts_are_right()) return 3;
+    if (!refusals_are_right()) return 4;
+    if (!rows_are_right()) return 5;
+    return maps_are_right() ? 0 : 6;
 }

@@ -3,8 +3,8 @@
 use Refusal::*;
 
 /// A record has so many bytes: length, instruction, three operand places of three bytes, four data bytes, six T-states, machine
-/// cycles.
-pub const RECORD_SIZE: usize = 22;
+/// cycles, the least and the most that the row takes.
+pub const RECORD_SIZE: usize = 24;
 
 /// The longest text of a decoded record.
 pub const TEXT_MAX: usize = 52;

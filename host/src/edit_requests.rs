@@ -2,6 +2,7 @@
 
 use crate::original::edits::{Edit, PLACES};
 use crate::original::{Instruction, OpCode, Operand, RegI};
+use crate::plain::row_times::RowTimes;
 use std::collections::HashSet;
 
 /// Machine cycles of a record, and counts of those put in.
@@ -15,6 +16,12 @@ const NOWHERE: u8 = 255;
 const HELD: [u8; PLACES] = [0x91, 0xA2, 0xB3, 0xC4, 0xD5, 0xE6];
 const MORE: [u8; PLACES] = [0x1A, 0x2B, 0x3C, 0x4D, 0x5E, 0x6F];
 const PUSHED: u8 = 0x78;
+
+/// Row times of the record, which no edit alters; they differ, so that an exchange shows.
+pub const ROW_TIMES: RowTimes = RowTimes {
+    least: 17,
+    most: 19,
+};
 
 /// Six places, of which the first `count` are filled.
 #[derive(PartialEq, Eq, Hash, Clone, Copy)]

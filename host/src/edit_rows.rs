@@ -1,7 +1,7 @@
 //! The stored rows of the program `edits`: what the original's edits leave of the records lent to them.
 
-use crate::edit_requests::{requests, Request};
-use crate::plain::record::record;
+use crate::edit_requests::{requests, Request, ROW_TIMES};
+use crate::plain::record::timed_record;
 use crate::stored::Row;
 use std::fmt::Write;
 
@@ -16,7 +16,7 @@ fn row(asked: &Request) -> Row {
     let [first, second] = asked.edits().map(|edit| edit.done(&mut left) as u8);
     let pairs: String = request.iter().map(|byte| format!("{byte:02X} ")).collect();
     let mut line = format!("{pairs}= {first} {second}");
-    for byte in record(left) {
+    for byte in timed_record(left, ROW_TIMES) {
         write!(line, " {byte:02X}").unwrap();
     }
     line.push('\n');

@@ -46,7 +46,7 @@ mod sys {
 
 // What is lent is apart and alive by its type, which is all that the functions ask of a caller.
 
-/// The record of `ins` at the front of `out`, and the answer number.
+/// The record of `ins`, the empty one where it is refused, at the front of `out`, and the answer number.
 pub fn z80_record(ins: &[u8], out: &mut [u8]) -> u8 {
     unsafe { sys::z80_record(ins.as_ptr(), ins.len(), out.as_mut_ptr(), out.len()) }
 }

@@ -1,8 +1,9 @@
 //! What a call of an exported function answers and leaves in what was lent to it, and what it should.
 
-use crate::answer::Refusal;
+use crate::answer::{Refusal, RECORD_SIZE};
 use crate::asked::Asked;
 use crate::function::Function;
+use crate::plain::record::EMPTY;
 use crate::plain::said::Said;
 
 /// The bytes that are looked at: more than the largest room lent. Those past a room must stay as they were.
@@ -43,7 +44,7 @@ pub fn filled(k: usize) -> Lent {
 }
 
 /// Where the room holds what the original says, that at the buffer's front and its numbers; else zeros and a refusal, with
-/// its address where the function tells one.
+/// its address where the function tells one. A refused decode has the empty record, where the room holds that.
 pub fn expected(call: &Call, said: &Said) -> Outcome {
     let mut lent = call.before;
     let (number, count, passed, address) = match said {
@@ -56,7 +57,11 @@ pub fn expected(call: &Call, said: &Said) -> Outcome {
         Err(refused) => (refused.refusal as u8, 0, 0, refused.address),
     };
     match call.asked {
-        Asked::Bytes(Function::Record, _) => (),
+        Asked::Bytes(Function::Record, _) => {
+            if said.is_err() && RECORD_SIZE <= call.room {
+                lent.buffer[..RECORD_SIZE].copy_from_slice(&EMPTY);
+            }
+        }
         Asked::Bytes(_, _) => lent.count = count as u32,
         Asked::Row(_) => (lent.count, lent.passed) = (count as u32, passed as u32),
         Asked::Map(_) => lent.address = address as u32,
@@ -138,9 +143,11 @@ mod tests {
         expected(&call, &said(asked))
     }
 
-    /// Whether a damage is seen with every function: where it is Done, in too small a room, and where the bytes are refused.
+    /// Whether a damage is seen with every function: where it is Done, in too small a room, and where the bytes are refused, in a
+    /// room for a record and in one that is too small.
     fn is_seen(damage: impl Fn(&mut Outcome)) -> bool {
-        let cases = [(&[0x18, 0x80][..], 56), (&[0x18, 0x80], 21), (&[], 56)];
+        let jump = &[0x18, 0x80][..];
+        let cases = [(jump, 56), (jump, 23), (&[], 56), (&[], 23)];
         cases.iter().all(|&(bytes, room)| {
             each(bytes).iter().all(|asked| {
                 let before = filled(5);
@@ -188,11 +195,29 @@ mod tests {
     #[test]
     fn record_by_hand() {
         let record = [
-            2, 28, 3, 0x82, 0xFF, 0, 0, 0, 0, 0, 0, 0x18, 0x80, 0, 0, 4, 3, 5, 0, 0, 0, 3,
+            2, 28, 11, 0, 0, 3, 0x82, 0xFF, 0, 0, 0, 0x20, 0x80, 0, 0, 4, 3, 5, 0, 0, 0, 3, 7, 12,
         ];
         let Lent { count, passed, .. } = filled(5);
-        let asked = Asked::Bytes(Record, vec![0x18, 0x80]);
+        let asked = Asked::Bytes(Record, vec![0x20, 0x80]);
         fits(&asked, &record, (count, passed), (count, passed));
+    }
+
+    /// In a room for it the empty record, and nothing in a smaller one; the number is the same.
+    #[test]
+    fn refused_records_by_hand() {
+        let cases: [(&[u8], u8); 3] = [(&[], 1), (&[0xDD, 0x23, 0x00], 2), (&[0x00; 5], 3)];
+        for (ins, number) in cases {
+            let asked = Asked::Bytes(Record, ins.to_vec());
+            for room in [0, 23, 24, 25] {
+                let mut lent = filled(5);
+                if room >= 24 {
+                    lent.buffer[..24].fill(0);
+                    lent.buffer[1] = 35;
+                }
+                let found = outcome(&asked, room);
+                assert_eq!((found.number, found.lent), (number, lent), "{ins:02X?}");
+            }
+        }
     }
 
     #[test]

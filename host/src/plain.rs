@@ -1,10 +1,11 @@
-//! The plain reading: what document 01 says, in Rust that is written to be read, over the original's decoder. Nothing of it is
-//! proved. It is no part of what a host calls: the exported functions are held to it, and stored answers are made with it.
+//! The plain reading: what documents 01 and 02 say, in Rust that is written to be read, over the original's decoder. Nothing of it
+//! is proved. It is no part of what a host calls: the exported functions are held to it, and stored answers are made with it.
 
 pub mod flow;
 pub mod listing;
 pub mod marking;
 pub mod record;
+pub mod row_times;
 pub mod said;
 
 use crate::answer::Refusal;

@@ -5,6 +5,7 @@ use crate::asked::Asked;
 use crate::function::Function;
 use crate::inputs;
 use crate::outcome::{expected, Call, Lent, Outcome, LOOKED_AT};
+use crate::plain::record::EMPTY;
 use crate::plain::said::{said, said_of_bytes};
 use crate::stored::{distinct, padded, Row};
 use std::fmt::Write;
@@ -39,17 +40,15 @@ fn texts() -> Vec<Row> {
     rows
 }
 
-/// The line of a record: bytes, number, and where that is 0 the record's bytes.
+/// The line of a record: bytes, number, the record's bytes, which are the empty one's where the number is not 0.
 fn record_row(ins: &[u8]) -> Row {
-    let mut line = shown(ins);
-    match said_of_bytes(Function::Record, ins) {
-        Ok(record) => {
-            line.push('0');
-            for byte in record {
-                write!(line, " {byte:02X}").unwrap();
-            }
-        }
-        Err(refusal) => write!(line, "{}", refusal as u8).unwrap(),
+    let (number, record) = match said_of_bytes(Function::Record, ins) {
+        Ok(record) => (0, record),
+        Err(refusal) => (refusal as u8, EMPTY.to_vec()),
+    };
+    let mut line = format!("{}{number}", shown(ins));
+    for byte in record {
+        write!(line, " {byte:02X}").unwrap();
     }
     line.push('\n');
     Row {

@@ -31,7 +31,7 @@ pub struct Group {
 /// For the record none, one too few, exactly enough, one more, and more; for a text every room up to two over the longest.
 fn every_room(function: Function) -> Vec<u8> {
     match function {
-        Function::Record => vec![0, 21, 22, 23, 40],
+        Function::Record => vec![0, 23, 24, 25, 40],
         _ => (0..=TEXT_MAX as u8 + 2).collect(),
     }
 }
@@ -39,7 +39,7 @@ fn every_room(function: Function) -> Vec<u8> {
 /// A room for all that the function may write: of three in turn the k-th.
 fn enough_room(function: Function, k: usize) -> Vec<u8> {
     let rooms = match function {
-        Function::Record => [22, 23, 40],
+        Function::Record => [24, 25, 40],
         _ => [52, 53, 56],
     };
     vec![rooms[k % rooms.len()]]

@@ -59,7 +59,7 @@ fn plain_line(asked: &[u8]) -> String {
     let [one, two] = answers;
     let fixed = "04 1D 06 80 00 01 07 00 0C 00 00 DD 36 80 07";
     let (asked, places) = (pairs(asked), pairs(&places));
-    format!("{asked}= {one} {two} {fixed} {places}{m:02X}\n")
+    format!("{asked}= {one} {two} {fixed} {places}{m:02X} 11 13\n")
 }
 
 /// So the original panics nowhere that the rule allows, and leaves zeros behind the filled places.

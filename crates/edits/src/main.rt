@@ -8,6 +8,7 @@ use libc::STDOUT_FILENO;
 use numerals::put_hex8;
 use opcode::counts::Bytes;
 use opcode::counts::MCycles;
+use opcode::counts::RowTime;
 use opcode::counts::TStates;
 use opcode::instruction::Instruction;
 use opcode::operand::Operand;
@@ -24,8 +25,8 @@ use writer::put_bytes;
 // A request: which owner, six T-states and a count for the record and for what is put in, and two numbers more.
 const REQUEST_SIZE: usize = 17;
 
-// A line: three bytes for each of the request's, five for = and the two answers, three for each of the record's 22, and LF.
-const LINE_SIZE: usize = 123;
+// A line: three bytes for each of the request's, five for = and the two answers, three for each of the record's 24, and LF.
+const LINE_SIZE: usize = 129;
 
 // The T-states of a request, six bytes and a count.
 fn timing(b: &[u8]) -> Timing
@@ -44,7 +45,7 @@ fn timing(b: &[u8]) -> Timing
     }
 }
 
-// LD (IX-128), 07 with a third operand, so that every place has something, and with the request's T-states.
+// LD (IX-128), 07 with a third operand and row times of its own, so that every place has something, and with the request's T-states.
 fn record(held: Timing) -> OpCode {
     let tstates = held.tstates;
     let mcycles = held.mcycles;
@@ -57,6 +58,8 @@ fn record(held: Timing) -> OpCode {
         data: [0xDD, 0x36, 0x80, 7],
         tstates,
         mcycles,
+        least: RowTime(17),
+        most: RowTime(19),
     }
 }
 

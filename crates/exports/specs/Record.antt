@@ -8,10 +8,10 @@ use Rattle.table.specs.declared.Decoded.{Decoded}
 use Rattle.table.specs.Decode.{numberOf}
 use Rattle.layout.specs.Layout.{layoutOf}
 
--- the decoder's refusals 1, 2, 3, and 4, NoRoom, where fewer than 22 bytes are lent
+-- the decoder's refusals 1, 2, 3, and 4, NoRoom, where fewer than 24 bytes are lent and the decode was Done
 abbrev pub recordNumber : Decoded → List ℕ → ℕ
-recordNumber d out = cond (eqb (numberOf (d .answer)) 0) (cond (ltb (length out) 22) 4 0) (numberOf (d .answer))
+recordNumber d out = cond (eqb (numberOf (d .answer)) 0) (cond (ltb (length out) 24) 4 0) (numberOf (d .answer))
 
--- 0, Done: the record's 22 bytes at the front, and those behind as they were; on a refusal all as they were
+-- where 24 bytes are lent: the record, which is the empty one on a refusal, at the front, and those behind as they were; else all as they were
 abbrev pub recordBytes : Decoded → List ℕ → List ℕ
-recordBytes d out = cond (eqb (recordNumber d out) 0) (layoutOf (d .rec) ++ drop 22 out) out
+recordBytes d out = cond (ltb (length out) 24) out (layoutOf (d .rec) ++ drop 24 out)

@@ -35,7 +35,7 @@ removed l pos = take pos l ++ drop (pos + 1) l
 abbrev pub no : OpCode → Edited
 no r = record { ok = false; rec = r }
 
--- the record with the n filled places l
+-- the record with the n filled places l; its row times are figures of the row, not of the list, and stay
 abbrev pub timed : OpCode → List TStates → ℕ → OpCode
 timed r l n =
     record {
@@ -47,6 +47,8 @@ timed r l n =
       «data» = r .«data»;
       tstates = six l;
       mcycles = record { 0 = n };
+      least = r .least;
+      most = r .most;
     }
 
 abbrev pub yes : OpCode → List TStates → ℕ → Edited

@@ -15,6 +15,10 @@ pub struct RowTime(pub u16);
 // How the time of a row varies.
 pub enum Pace {
     Steady,
+    // So many at least.
+    Shorter(u16),
+    // So many at least where the first operand is a condition.
+    ShorterIf(u16),
     // Five more on each pass but the last.
     Repeats,
 }

@@ -1,16 +1,17 @@
 // The record of a decoded row.
 ghost use mathlib.Core.Path.{_≡_};
 ghost use Rattle.opcode.specs.Record.{emptyOf};
-ghost use Rattle.opcode.specs.Times.{timeOf};
+ghost use Rattle.opcode.specs.Times.{timeOf, retimed};
 use super::counts::Bytes;
 use super::counts::MCycles;
 use super::counts::RowTime;
 use super::counts::TStates;
 use super::instruction::Instruction;
 use super::operand::Place;
-use super::times::most;
+use super::times::row_times;
 
-// The first `mcycles` of the six T-state places are filled and the rest are zero; `data` is the input, padded with zeros.
+// The first `mcycles` of the six T-state places are filled and the rest are zero; `data` is the input, padded with zeros;
+// `least` and `most` are the quick and the slow way through the row.
 pub struct OpCode {
     pub length: Bytes,
     pub ins: Instruction,
@@ -20,6 +21,8 @@ pub struct OpCode {
     pub data: [u8; 4],
     pub tstates: [TStates; 6],
     pub mcycles: MCycles,
+    pub least: RowTime,
+    pub most: RowTime,
 }
 
 impl OpCode {
@@ -45,15 +48,47 @@ impl OpCode {
             data: [0; 4],
             tstates: [TStates(0); 6],
             mcycles: MCycles(0),
+            least: RowTime(0),
+            most: RowTime(0),
         }
     }
 
-    // The row time: the most that the row takes, by the six places, whatever `mcycles` says.
+    // The row time: the most that the row takes, by the six places, whatever `mcycles` and `most` say.
     pub fn row_time(self) -> RowTime
         ensures { λ t. ⌜ t ≡ timeOf self ⌝ }
     {
         let ins = self.ins;
+        let op1 = self.op1;
         let t = self.tstates;
-        most(ins, t)
+        row_times(ins, op1, t).most
+    }
+
+    // The record with the row times that its instruction, its first operand and its six places give.
+    pub fn with_row_times(self) -> OpCode
+        ensures { λ r. ⌜ r ≡ retimed self ⌝ }
+    {
+        let length = self.length;
+        let ins = self.ins;
+        let op1 = self.op1;
+        let op2 = self.op2;
+        let op3 = self.op3;
+        let data = self.data;
+        let tstates = self.tstates;
+        let mcycles = self.mcycles;
+        let span = row_times(ins, op1, tstates);
+        let least = span.least;
+        let most = span.most;
+        OpCode {
+            length,
+            ins,
+            op1,
+            op2,
+            op3,
+            data,
+            tstates,
+            mcycles,
+            least,
+            most,
+        }
     }
 }

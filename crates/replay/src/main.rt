@@ -40,14 +40,12 @@ fn write_head(ins: &[u8], number: u8) {
     io::write_all(STDOUT_FILENO, &[b'=', b' ', digit(number)]);
 }
 
-// The record's bytes when the number is 0.
+// The record's bytes, also those of a refusal, which begin as no record's.
 fn write_record(ins: &[u8]) {
-    let mut record = [0u8; 22];
+    let mut record = [0xFFu8; 24];
     let number = z80_record(ins, &mut record);
     write_head(ins, number);
-    if number == 0 {
-        write_bytes(&record, b" ", b"");
-    }
+    write_bytes(&record, b" ", b"");
 }
 
 // The text asked for: 1 is the plain one, another number the full one.

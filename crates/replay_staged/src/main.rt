@@ -20,10 +20,10 @@ const FIXED_MAX: u8 = 5;
 const INPUT_SIZE: usize = 7;
 
 // An outcome: the answer's number and the record.
-const OUTCOME_SIZE: usize = 23;
+const OUTCOME_SIZE: usize = 25;
 
 // 256 outcomes go out at once: a write for each is slow under the emulator.
-const BUFFER_SIZE: usize = 5888;
+const BUFFER_SIZE: usize = 6400;
 
 // Whether the run goes on, and the place of the next outcome in the buffer.
 struct Step {
@@ -40,8 +40,8 @@ fn write_front(out: &[u8], count: usize)
 // The outcome of the first bytes goes to its place; where the next one has no room behind it, the buffer is written.
 fn add(ins: &[u8], count: usize, out: &mut [u8], at: usize) -> usize
     requires { ⌜ count ≤ length (now ins) ⌝ }
-    requires { ⌜ at + 23 ≤ length (now out) ⌝ }
-    ensures { λ next. ⌜ next + 23 ≤ length (now (out .entry)) ⌝ }
+    requires { ⌜ at + 25 ≤ length (now out) ⌝ }
+    ensures { λ next. ⌜ next + 25 ≤ length (now (out .entry)) ⌝ }
 {
     let decoded = disas(&ins[0..count]);
     let answer = decoded.answer;
@@ -66,8 +66,8 @@ fn add_all(
     at: usize,
 ) -> usize
     requires { ⌜ fixed + free ≤ 7 ⌝ }
-    requires { ⌜ at + 23 ≤ 5888 ⌝ }
-    ensures { λ next. ⌜ next + 23 ≤ 5888 ⌝ }
+    requires { ⌜ at + 25 ≤ 6400 ⌝ }
+    ensures { λ next. ⌜ next + 25 ≤ 6400 ⌝ }
 {
     if free == 0 {
         return add(ins, fixed, out, at);
@@ -88,8 +88,8 @@ fn answer(
     out: &mut [u8; BUFFER_SIZE],
     at: usize,
 ) -> Step
-    requires { ⌜ at + 23 ≤ 5888 ⌝ }
-    ensures { λ step. ⌜ step .at + 23 ≤ 5888 ⌝ }
+    requires { ⌜ at + 25 ≤ 6400 ⌝ }
+    ensures { λ step. ⌜ step .at + 25 ≤ 6400 ⌝ }
 {
     if FREE_MAX < free {
         return Step { on: false, at };
@@ -104,8 +104,8 @@ fn answer(
 
 // Answers the next request: one that is cut off or can't be answered ends the run.
 fn answer_next(out: &mut [u8; BUFFER_SIZE], at: usize) -> Step
-    requires { ⌜ at + 23 ≤ 5888 ⌝ }
-    ensures { λ step. ⌜ step .at + 23 ≤ 5888 ⌝ }
+    requires { ⌜ at + 25 ≤ 6400 ⌝ }
+    ensures { λ step. ⌜ step .at + 25 ≤ 6400 ⌝ }
 {
     let mut request = [0u8; REQUEST_SIZE];
     let got = io::read_full(STDIN_FILENO, &mut request);

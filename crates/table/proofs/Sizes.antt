@@ -1,4 +1,4 @@
--- The sizes of a decoded record: its length, its machine cycles, its T-state places and its row time.
+-- The sizes of a decoded record: its length, its machine cycles, its T-state places and its row times.
 -- Assumes nothing.
 use mathlib.Core.Path.{_≡_, refl, sym, ap, subst, _∙_}
 use mathlib.Core.Bool.{Bool, true, false, _&&_}
@@ -12,16 +12,16 @@ use Rattle.opcode.specs.declared.counts.TStates.{TStates}
 use Rattle.opcode.specs.declared.instruction.Instruction.{Instruction}
 use Rattle.opcode.specs.declared.record.OpCode.{OpCode}
 use Rattle.opcode.specs.Record.{unfilled, six, sum}
-use Rattle.opcode.specs.Times.{mostOf}
+use Rattle.opcode.specs.Times.{leastOf, mostOf}
 use Rattle.table.specs.declared.Answer.{Answer}
 use Rattle.table.specs.declared.Decoded.{Decoded}
-use Rattle.table.specs.Row.{Kind, none, Cycles, Row, row, gap, t1, states}
+use Rattle.table.specs.Row.{Kind, none, Cycles, Row, row, gap, t1, read, states}
 use Rattle.table.specs.Departures.{oneFigure, needed, neededBehind}
 use Rattle.table.specs.Plain.{plain}
 use Rattle.table.specs.Cb.{cb}
 use Rattle.table.specs.Ed.{ed}
 use Rattle.table.specs.Decode.{isPrefix, rowOf, operandBytes, made, recordOf, four, neededOf, decodeOf}
-use Rattle.table.specs.Consequences.{Keeps, total}
+use Rattle.table.specs.Consequences.{Keeps}
 use Rattle.table.proofs.Pages.{both-left, both-right}
 use Rattle.table.proofs.Rows.{Everywhere, row-holds}
 use Rattle.table.proofs.Done.{decides, decided}
@@ -31,20 +31,25 @@ abbrev filled : List ℕ → Bool
 filled [] = true
 filled (t ∷ ts) = ltb 0 t && filled ts
 
-abbrev timed : Instruction → List ℕ → Bool
-timed i ts = ltb 0 (length ts) && (leb (length ts) 6 && (filled ts && (leb 4 (mostOf i (total ts) .0) && leb (mostOf i (total ts) .0) 23)))
+abbrev timed : List ℕ → Bool
+timed ts = ltb 0 (length ts) && (leb (length ts) 6 && filled ts)
 
--- length 1 to 4, one to six machine cycles, each with T-states, a row time of 4 to 23
-abbrev sized : Row → Bool
-sized gap = true
-sized (row i x y z n t) = leb 1 n && (leb n 4 && timed i (oneFigure t))
+-- the least is no more than the most, and both are 4 to 23
+abbrev bounded : ℕ → ℕ → Bool
+bounded low high = leb 4 low && (leb low high && leb high 23)
+
+-- length 1 to 4, one to six machine cycles, each with T-states, row times of 4 to 23, over the bytes s behind the code
+abbrev sized : List ℕ → Row → Bool
+sized s gap = true
+sized s (row i x y z n t) =
+    leb 1 n && (leb n 4 && (timed (oneFigure t) && bounded (leastOf i (read x s) (sum (six (states (oneFigure t)))) .0) (mostOf i (sum (six (states (oneFigure t)))) .0)))
 
 abbrev Sized : Row → Type 0
-Sized x = T (sized x)
+Sized x = (s : List ℕ) → T (sized s x)
 
-all-sized : Everywhere sized
-unfolding plain cb ed
-all-sized =
+all-sized : (s : List ℕ) → Everywhere (sized s)
+unfolding plain cb ed sum
+all-sized s =
     record {
       none = tt;
       on-plain = tt;
@@ -58,7 +63,7 @@ all-sized =
     }
 
 row-sized : (s : List ℕ) → Sized (rowOf s)
-row-sized s = row-holds sized all-sized s
+row-sized s bytes = row-holds (sized bytes) (all-sized bytes) s
 
 length-states : (ts : List ℕ) → length (states ts) ≡ length ts
 length-states [] = refl
@@ -83,49 +88,44 @@ fill [] f k h = absurd (omega arith)
 fill (t ∷ ts) f zero h = ltb→lt 0 t (both-left (ltb 0 t) (filled ts) f)
 fill (t ∷ ts) f (suc k) h = fill ts (both-right (ltb 0 t) (filled ts) f) k (le-of-suc-le-suc h)
 
-added : (ts : List ℕ) → length ts ≤ 6 → sum (six (states ts)) ≡ total ts
-unfolding sum
-added [] h = refl
-added (a ∷ []) h = refl
-added (a ∷ b ∷ []) h = refl
-added (a ∷ b ∷ c ∷ []) h = refl
-added (a ∷ b ∷ c ∷ d ∷ []) h = refl
-added (a ∷ b ∷ c ∷ d ∷ e ∷ []) h = refl
-added (a ∷ b ∷ c ∷ d ∷ e ∷ f ∷ []) h = refl
-added (a ∷ b ∷ c ∷ d ∷ e ∷ f ∷ g ∷ ts) h = absurd (omega arith)
-
 made-keeps : (ins : Instruction) (x y z : Kind) (n : ℕ) (t : Cycles) (s d : List ℕ) (g : ℕ) → Sized (row ins x y z n t) → n ≤ g → Keeps g (made ins x y z n t s d)
 made-keeps ins x y z n t s d g w h =
     let ts = oneFigure t in
-    let w1 : T (leb n 4 && timed ins ts) = both-right (leb 1 n) (leb n 4 && timed ins ts) w in
-    let w2 : T (timed ins ts) = both-right (leb n 4) (timed ins ts) w1 in
-    let w3 = both-right (ltb 0 (length ts)) _ w2 in
-    let w4 = both-right (leb (length ts) 6) _ w3 in
-    let w5 = both-right (filled ts) _ w4 in
-    let some : 0 < length ts = ltb→lt 0 (length ts) (both-left (ltb 0 (length ts)) _ w2) in
-    let six-most : length ts ≤ 6 = leb→le (length ts) 6 (both-left (leb (length ts) 6) _ w3) in
+    let low = leastOf ins (read x s) (sum (six (states ts))) .0 in
+    let high = mostOf ins (sum (six (states ts))) .0 in
+    let w1 = both-right (leb 1 n) _ (w s) in
+    let w2 = both-right (leb n 4) _ w1 in
+    let w3 = both-left (timed ts) _ w2 in
+    let w4 = both-right (ltb 0 (length ts)) _ w3 in
+    let w5 = both-right (timed ts) (bounded low high) w2 in
+    let w6 = both-right (leb 4 low) _ w5 in
+    let some : 0 < length ts = ltb→lt 0 (length ts) (both-left (ltb 0 (length ts)) _ w3) in
+    let six-most : length ts ≤ 6 = leb→le (length ts) 6 (both-left (leb (length ts) 6) _ w4) in
     let room : length (states ts) ≤ 6 = rw (length-states ts) six-most in
     record {
-      length-least = leb→le 1 n (both-left (leb 1 n) (leb n 4 && timed ins ts) w);
-      length-most = leb→le n 4 (both-left (leb n 4) (timed ins ts) w1);
+      length-least = leb→le 1 n (both-left (leb 1 n) _ (w s));
+      length-most = leb→le n 4 (both-left (leb n 4) _ w1);
       length-given = h;
       cycles-least = some;
       cycles-most = six-most;
       places = refl;
-      first-filled = λ k q. subst (λ (m : ℕ). 0 < m) (sym (ap (λ (u : TStates). u .0) (place (states ts) room k) ∙ state ts k)) (fill ts (both-left (filled ts) _ w4) k q);
+      first-filled = λ k q. subst (λ (m : ℕ). 0 < m) (sym (ap (λ (u : TStates). u .0) (place (states ts) room k) ∙ state ts k)) (fill ts (both-right (leb (length ts) 6) _ w4) k q);
       rest-zero = λ k q. place (states ts) room k ∙ List·getD-eq-default (states ts) unfilled (rw (length-states ts) q);
-      time-least = rw (added ts six-most) (leb→le 4 (mostOf ins (total ts) .0) (both-left (leb 4 (mostOf ins (total ts) .0)) _ w5));
-      time-most = rw (added ts six-most) (leb→le (mostOf ins (total ts) .0) 23 (both-right (leb 4 (mostOf ins (total ts) .0)) _ w5));
+      time-least = leb→le 4 low (both-left (leb 4 low) _ w5);
+      time-apart = leb→le low high (both-left (leb low high) _ w6);
+      time-most = leb→le high 23 (both-right (leb low high) _ w6);
+      time-told = refl;
     }
 
 record-keeps : (x : Row) → Sized x → (s d : List ℕ) (g : ℕ) → recordOf x s d .length .0 ≤ g → Keeps g (recordOf x s d)
-record-keeps gap w s d g h = made-keeps Instruction.NOP none none none 1 (t1 4) s d g tt h
+unfolding sum
+record-keeps gap w s d g h = made-keeps Instruction.NOP none none none 1 (t1 4) s d g (λ b. tt) h
 record-keeps (row ins x y z n t) w s d g h = made-keeps ins x y z n t s d g w h
 
 -- four bytes decide any row, and a row is no longer than the bytes that decide it
 row-needs : (x : Row) → Sized x → needed x ≤ 4
 row-needs gap w = omega arith
-row-needs (row ins x y z n t) w = omega (arith, leb→le n 4 (both-left (leb n 4) (timed ins (oneFigure t)) (both-right (leb 1 n) (leb n 4 && timed ins (oneFigure t)) w)))
+row-needs (row ins x y z n t) w = leb→le n 4 (both-left (leb n 4) _ (both-right (leb 1 n) _ (w [])))
 
 row-length : (x : Row) (s d : List ℕ) → recordOf x s d .length .0 ≤ needed x
 row-length gap s d = omega arith

@@ -71,7 +71,7 @@ LongWhen s = 4 < length s
 abbrev pub DoneWhen : List ℕ → Type 0
 DoneWhen s = (NothingWhen s → ⊥) × (ShortWhen s → ⊥) × (LongWhen s → ⊥)
 
--- what a decoded record of n given bytes keeps to: its length, its machine cycles m, the first m of six T-state places filled and the rest zero, its row time
+-- what a decoded record of n given bytes keeps to: its length, its machine cycles m, the first m of six T-state places filled and the rest zero, its row times
 pub record Keeps (n : ℕ) (o : OpCode) : Type 0 where
   pub length-least : 1 ≤ o .length .0
   pub length-most : o .length .0 ≤ 4
@@ -81,8 +81,10 @@ pub record Keeps (n : ℕ) (o : OpCode) : Type 0 where
   pub places : length (o .tstates) ≡ 6
   pub first-filled : (k : ℕ) → k < o .mcycles .0 → 0 < getD (o .tstates) k unfilled .0
   pub rest-zero : (k : ℕ) → o .mcycles .0 ≤ k → getD (o .tstates) k unfilled ≡ unfilled
-  pub time-least : 4 ≤ timeOf o .0
-  pub time-most : timeOf o .0 ≤ 23
+  pub time-least : 4 ≤ o .least .0
+  pub time-apart : o .least .0 ≤ o .most .0
+  pub time-most : o .most .0 ≤ 23
+  pub time-told : o .most ≡ timeOf o
 
 -- the record with other data
 abbrev pub withData : OpCode → List ℕ → OpCode
@@ -96,6 +98,8 @@ withData o d =
       «data» = d;
       tstates = o .tstates;
       mcycles = o .mcycles;
+      least = o .least;
+      most = o .most;
     }
 
 -- bytes t added to s change nothing of what s decodes to but the data
@@ -122,19 +126,21 @@ Shows (row i x y z n (always ts)) = Unit {0}
 Shows (row i x y z n (conditional met unmet)) = total unmet < total (oneFigure (conditional met unmet))
 Shows (row i x y z n (repeating last again)) = total again ≡ total (oneFigure (repeating last again)) + 5
 
-abbrev pub larger : ℕ → ℕ → ℕ
-larger a b = cond (leb a b) b a
+-- UM0080's figures: the quick way through a row, and the slow one
+abbrev pub quick : Cycles → List ℕ
+quick (always ts) = ts
+quick (conditional met unmet) = unmet
+quick (repeating last again) = last
 
--- the larger of the figures that UM0080 has for a row
-abbrev pub slowest : Cycles → ℕ
-slowest (always ts) = total ts
-slowest (conditional met unmet) = larger (total met) (total unmet)
-slowest (repeating last again) = larger (total last) (total again)
+abbrev pub slow : Cycles → List ℕ
+slow (always ts) = ts
+slow (conditional met unmet) = met
+slow (repeating last again) = again
 
--- that is the row time, whatever bytes s stand behind the code and whatever the data d
-abbrev pub TakesMost : Row → Type 0
-TakesMost gap = Unit {0}
-TakesMost (row i x y z n t) = (s d : List ℕ) → timeOf (made i x y z n t s d) .0 ≡ slowest t
+-- they are the least and the most of the row's record, whatever bytes s stand behind the code and whatever the data d
+abbrev pub Figures : Row → Type 0
+Figures gap = Unit {0}
+Figures (row i x y z n t) = (s d : List ℕ) → (made i x y z n t s d .least .0 ≡ total (quick t)) × (made i x y z n t s d .most .0 ≡ total (slow t))
 
 abbrev pub same : List ℕ → List ℕ → Bool
 same [] [] = true

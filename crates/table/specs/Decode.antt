@@ -6,7 +6,8 @@ use lib.Dec.{eqb, ltb}
 use lib.ListN.{length, drop, getD}
 use Rattle.opcode.specs.declared.instruction.Instruction.{Instruction}
 use Rattle.opcode.specs.declared.record.OpCode.{OpCode}
-use Rattle.opcode.specs.Record.{six, emptyOf}
+use Rattle.opcode.specs.Record.{six, sum, emptyOf}
+use Rattle.opcode.specs.Times.{leastOf, mostOf}
 use Rattle.table.specs.declared.Answer.{Answer}
 use Rattle.table.specs.declared.Decoded.{Decoded}
 use Rattle.table.specs.Row.{ix, iy, Kind, none, Cycles, Row, row, gap, t1, read, states}
@@ -45,7 +46,7 @@ rowOf s =
 abbrev pub operandBytes : List ℕ → List ℕ
 operandBytes s = cond (isPrefix (getD s 0 0) || (eqb (getD s 0 0) 0xCB || eqb (getD s 0 0) 0xED)) (drop 2 s) (drop 1 s)
 
--- a record from instruction, kinds, length, cycles, the bytes behind the code and the data; six T-state places, the first m filled and the rest zero
+-- a record from instruction, kinds, length, cycles, the bytes behind the code and the data; six T-state places, the first m filled and the rest zero; the least and the most that the row takes
 abbrev pub made : Instruction → Kind → Kind → Kind → ℕ → Cycles → List ℕ → List ℕ → OpCode
 made i x y z n t s d =
     record {
@@ -57,6 +58,8 @@ made i x y z n t s d =
       «data» = d;
       tstates = six (states (oneFigure t));
       mcycles = record { 0 = length (oneFigure t) };
+      least = leastOf i (read x s) (sum (six (states (oneFigure t))));
+      most = mostOf i (sum (six (states (oneFigure t))));
     }
 
 -- the record of a row over the bytes s behind its code and the data d; four bytes that no row takes: length 1, NOP, [4]

@@ -13,6 +13,7 @@ use Rattle.opcode.specs.declared.instruction.Instruction.{Instruction}
 use Rattle.opcode.specs.declared.record.OpCode.{OpCode}
 use Rattle.opcode.specs.declared.timing.Timing.{Timing}
 use Rattle.opcode.specs.Record.{six, emptyOf}
+use Rattle.opcode.specs.Times.{retimed}
 use Rattle.opcode.specs.Timing.{insertOf, removeOf}
 use Rattle.table.specs.declared.Answer.{Answer}
 use Rattle.table.specs.declared.Decoded.{Decoded}
@@ -130,6 +131,22 @@ isImm8 (Place.Of Operand.IgnoreIO) = false
 abbrev pub replaceAddr : Index → ℕ → Place → Place
 replaceAddr i d p = cond (hasAddr p) (Place.Of (indexOf i d)) p
 
+-- a record whose row times are still to be filled
+abbrev pub untimed : OpCode → OpCode
+untimed o =
+    record {
+      length = o .length;
+      ins = o .ins;
+      op1 = o .op1;
+      op2 = o .op2;
+      op3 = o .op3;
+      «data» = o .«data»;
+      tstates = o .tstates;
+      mcycles = o .mcycles;
+      least = record { 0 = 0 };
+      most = record { 0 = 0 };
+    }
+
 abbrev pub timing : List ℕ → Timing
 timing ts = record { tstates = six (states ts); mcycles = record { 0 = length ts } }
 
@@ -145,6 +162,8 @@ changed o n i x y =
       «data» = o .«data»;
       tstates = o .tstates;
       mcycles = o .mcycles;
+      least = o .least;
+      most = o .most;
     }
 
 -- LD (IX+d),n takes n from the fourth byte and loses its sixth cycle
@@ -171,7 +190,7 @@ prefixed i d n o =
 -- the bytes behind the prefix decoded to r, which is changed where it is Done; EB is not looked into
 abbrev pub behind : Decoded → Index → ℕ → ℕ → ℕ → List ℕ → OpCode
 behind r i b1 b2 b3 d =
-    cond (eqb b1 0xCB) (recordOf (bitRow i b3 (getD cb b3 gap)) (b2 ∷ b3 ∷ []) d)
+    cond (eqb b1 0xCB) (untimed (recordOf (bitRow i b3 (getD cb b3 gap)) (b2 ∷ b3 ∷ []) d))
     (cond (eqb b1 0xEB) (asNop (withData emptyOf d))
     (cond (eqb (numberOf (r .answer)) 0) (prefixed i b2 b3 (r .rec)) (asNop (withData emptyOf d))))
 
@@ -184,9 +203,13 @@ step r s d =
     cond (eqb (length s) 0) (refused Answer.Nothing)
     (cond (isPrefix (first s))
     (cond (ltb (length s) 4) (refused Answer.Short) (done (behind r (named (first s)) (second s) (getD s 2 0) (getD s 3 0) d)))
-    (cond (ltb (length s) (needed (pageRow (first s) (second s)))) (refused Answer.Short) (done (recordOf (pageRow (first s) (second s)) (operandBytes s) d))))
+    (cond (ltb (length s) (needed (pageRow (first s) (second s)))) (refused Answer.Short) (done (untimed (recordOf (pageRow (first s) (second s)) (operandBytes s) d)))))
 
 -- decoding by steps, each handing the rest to the next; k bounds how many
 unfoldable pub reading : ℕ → List ℕ → List ℕ → Decoded
 reading zero s d = step (refused Answer.Short) s d
 reading (suc k) s d = step (reading k (drop 1 s) d) s d
+
+-- the row times are filled at the end
+abbrev pub filled : Decoded → Decoded
+filled r = cond (eqb (numberOf (r .answer)) 0) (done (retimed (r .rec))) r

@@ -38,12 +38,12 @@ fn target(address: u16, record: &OpCode) -> Option<u16> {
     }
 }
 
-fn has_condition(record: &OpCode) -> bool {
+pub fn has_condition(record: &OpCode) -> bool {
     matches!(record.op1, Some(Operand::FlagCondition(_)))
 }
 
 /// The rows that have themselves among their next places.
-fn repeats(record: &OpCode) -> bool {
+pub fn repeats(record: &OpCode) -> bool {
     matches!(
         record.ins,
         LDIR | LDDR | CPIR | CPDR | INIR | INDR | OTIR | OTDR

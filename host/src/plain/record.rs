@@ -1,10 +1,24 @@
-//! A record of the original as the 22 bytes that pass to a host.
+//! A record as the 24 bytes that pass to a host: 22 are the original's, and two its row times by document 02.
 
+use super::row_times::{row_times, RowTimes};
 use crate::answer::RECORD_SIZE;
-use crate::original::{OpCode, Operand, RegI};
+use crate::original::{Instruction, OpCode, Operand, RegI};
 
-/// The record's bytes; the instruction is its place in the original's enum.
+/// The empty record, which goes with a refusal: NOP, and all else zero.
+pub const EMPTY: [u8; RECORD_SIZE] = {
+    let mut bytes = [0; RECORD_SIZE];
+    bytes[1] = Instruction::NOP as u8;
+    bytes
+};
+
+/// The bytes of a decoded row's record.
 pub fn record(opcode: OpCode) -> [u8; RECORD_SIZE] {
+    let times = row_times(&opcode);
+    timed_record(opcode, times)
+}
+
+/// Those of a record whose row times are given; the instruction is its place in the original's enum.
+pub fn timed_record(opcode: OpCode, times: RowTimes) -> [u8; RECORD_SIZE] {
     let mut bytes = [0; RECORD_SIZE];
     bytes[0] = opcode.length;
     bytes[1] = opcode.ins as u8;
@@ -14,6 +28,8 @@ pub fn record(opcode: OpCode) -> [u8; RECORD_SIZE] {
     bytes[11..15].copy_from_slice(&opcode.data);
     bytes[15..21].copy_from_slice(&opcode.tstates);
     bytes[21] = opcode.mcycles;
+    bytes[22] = times.least;
+    bytes[23] = times.most;
     bytes
 }
 

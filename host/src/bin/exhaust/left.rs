@@ -28,7 +28,8 @@ pub struct Left {
 }
 
 impl Left {
-    /// What the original has a call leave, on the four bytes of a number, the highest first.
+    /// What the original has a call leave, on the four bytes of a number, the highest first. Those are never refused, so a refusal
+    /// is one for room, which writes nothing.
     pub fn by_original(function: Function, input: u32) -> Left {
         let decoded = decoded(&bytes(input));
         match decoded.and_then(|opcode| Left::written(function, opcode)) {
@@ -103,7 +104,8 @@ mod tests {
 
     #[test]
     fn by_hand() {
-        let record = b"\x02\x1C\x03\x82\xFF\0\0\0\0\0\0\x18\x80\x56\x78\x04\x03\x05\0\0\0\x03";
+        let record =
+            b"\x02\x1C\x03\x82\xFF\0\0\0\0\0\0\x18\x80\x56\x78\x04\x03\x05\0\0\0\x03\x0C\x0C";
         let plain = b"JR\t-126 [4, 3, 5, 0, 0, 0]";
         let full = b"18 80 \t\tJR\t-126 [4, 3, 5, 0, 0, 0]";
         let expected = [
@@ -148,9 +150,9 @@ mod tests {
         let text = Left::by_original(Function::Text, 0).to_string();
         assert_eq!(text, r#"0, count 23, "NOP\t [4, 0, 0, 0, 0, 0]""#);
         let mut record = Left::by_original(Function::Record, 0);
-        let bytes = "01, 23, 00, 00, 00, 00, 00, 00, 00, 00, 00, 00, 00, 00, 00, 04, 00, 00, 00, 00, 00, 01";
+        let bytes = "01, 23, 00, 00, 00, 00, 00, 00, 00, 00, 00, 00, 00, 00, 00, 04, 00, 00, 00, 00, 00, 01, 04, 04";
         assert_eq!(record.to_string(), format!("0, [{bytes}]"));
-        record.lent[23] = 0;
+        record.lent[25] = 0;
         assert_eq!(record.to_string(), format!("0, [{bytes}, A5, 00]"));
     }
 }
