@@ -8,7 +8,7 @@
 enum { RECORD, TEXT, FULL_TEXT };
 enum { HASH, ALL };
 
-enum { INPUT = 4, LENT = 56, WORDS = 8 };
+enum { INPUT = 4, LENT = 60, WORDS = 9 };
 static const uint64_t FILL = 0xA5A5A5A5A5A5A5A5;
 
 // Inputs are counted with the first byte highest.
@@ -16,10 +16,10 @@ struct request {
     uint32_t wanted, function, first, count;
 };
 
-// What a call leaves: its number and count, and the buffer with what stands behind the room. As words it is hashed.
+// What a call leaves: its number, count and missing bytes, and the buffer with what stands behind the room. As words it is hashed.
 union left {
     struct {
-        uint32_t number, count;
+        uint32_t number, count, missing;
         uint8_t lent[LENT];
     };
     uint64_t words[WORDS];
@@ -54,9 +54,9 @@ static void call(uint32_t function, uint32_t input, union left *left) {
     uint8_t ins[INPUT] = {input >> 16, input >> 8, input, (input >> 24) + (input >> 16) + (input >> 8) + input};
     for (size_t i = 0; i < WORDS; i++) left->words[i] = FILL;
     switch (function) {
-    case RECORD: left->number = z80_record(ins, INPUT, left->lent, Z80_RECORD_SIZE); return;
-    case TEXT: left->number = z80_text(ins, INPUT, left->lent, Z80_TEXT_MAX, &left->count); return;
-    case FULL_TEXT: left->number = z80_full_text(ins, INPUT, left->lent, Z80_TEXT_MAX, &left->count); return;
+    case RECORD: left->number = z80_record(ins, INPUT, left->lent, Z80_RECORD_SIZE, &left->missing); return;
+    case TEXT: left->number = z80_text(ins, INPUT, left->lent, Z80_TEXT_MAX, &left->count, &left->missing); return;
+    case FULL_TEXT: left->number = z80_full_text(ins, INPUT, left->lent, Z80_TEXT_MAX, &left->count, &left->missing); return;
     }
 }
 

@@ -1,13 +1,13 @@
 // The bridge between the comparison and the exported functions, where the machine is no x86-64: compiled by the kit for
 // x86-64 and run under the kit's emulator. It reads calls on standard input, as `Calls::request` writes them, and writes for
-// each the answer number, whether a map was altered, the lent count, number of bytes passed and address, and the lent buffer as
-// they are then.
+// each the answer number, whether a map was altered, the lent count, number of bytes passed, address and number of missing bytes,
+// and the lent buffer as they are then.
 #include "z80.h"
 #include <unistd.h>
 
 // The functions by the numbers of src/function.rs and src/calls.rs.
 enum { RECORD, TEXT, FULL_TEXT, ROW, MAP };
-enum { NUMBER = 4, NUMBERS = 3, LOOKED_AT = 64, OUTCOME = 2 + NUMBERS * NUMBER + LOOKED_AT };
+enum { NUMBER = 4, NUMBERS = 4, LOOKED_AT = 64, OUTCOME = 2 + NUMBERS * NUMBER + LOOKED_AT };
 enum { LONGEST = 65537, LONGEST_PART = 2 * LONGEST + 1, BEHIND = 4, PIPE = 65536 };
 
 // What a call is about: the bytes of a row, an image and where it is looked at, or the map that was read last.
@@ -15,6 +15,11 @@ struct about {
     uint8_t function;
     size_t len;
     uint16_t origin, address;
+};
+
+// The numbers that a call may write.
+struct numbers {
+    uint32_t count, passed, address, missing;
 };
 
 // A part of a map, with what stands behind it, as src/laid.rs has it: as it is lent, and as it was.
@@ -104,15 +109,15 @@ static int is_altered(const struct part *part) {
     return 0;
 }
 
-static uint8_t call(const struct about *a, uint8_t *out, size_t room, uint32_t *count, uint32_t *passed, uint32_t *address) {
+static uint8_t call(const struct about *a, uint8_t *out, size_t room, struct numbers *n) {
     const uint8_t *ins = slice(bytes, a->len);
     if (!room) out = 0;
     switch (a->function) {
-    case RECORD: return z80_record(ins, a->len, out, room);
-    case TEXT: return z80_text(ins, a->len, out, room, count);
-    case FULL_TEXT: return z80_full_text(ins, a->len, out, room, count);
-    case ROW: return z80_row(ins, a->len, a->origin, a->address, out, room, count, passed);
-    default: return check(a->origin, address);
+    case RECORD: return z80_record(ins, a->len, out, room, &n->missing);
+    case TEXT: return z80_text(ins, a->len, out, room, &n->count, &n->missing);
+    case FULL_TEXT: return z80_full_text(ins, a->len, out, room, &n->count, &n->missing);
+    case ROW: return z80_row(ins, a->len, a->origin, a->address, out, room, &n->count, &n->passed);
+    default: return check(a->origin, &n->address);
     }
 }
 
@@ -120,13 +125,14 @@ static uint8_t call(const struct about *a, uint8_t *out, size_t room, uint32_t *
 static int answer(const struct about *a, size_t room, size_t k) {
     if (room > LOOKED_AT || (PIPE - said_end < OUTCOME && !flush())) return 0;
     uint8_t *number = said + said_end, *altered = number + 1, *numbers = number + 2, *lent = numbers + NUMBERS * NUMBER;
-    uint32_t count = 0xA5A50000 + k, passed = 0x5A5A0000 + k, address = 0xC3C30000 + k;
+    struct numbers n = {0xA5A50000 + k, 0x5A5A0000 + k, 0xC3C30000 + k, 0x3C3C0000 + k};
     for (size_t place = 0; place < LOOKED_AT; place++) lent[place] = 31 * k + 7 * place + 1;
-    *number = call(a, lent, room, &count, &passed, &address);
+    *number = call(a, lent, room, &n);
     *altered = a->function == MAP && (is_altered(&image) || is_altered(&marks) || is_altered(&entries));
-    put_number(numbers, count);
-    put_number(numbers + NUMBER, passed);
-    put_number(numbers + 2 * NUMBER, address);
+    put_number(numbers, n.count);
+    put_number(numbers + NUMBER, n.passed);
+    put_number(numbers + 2 * NUMBER, n.address);
+    put_number(numbers + 3 * NUMBER, n.missing);
     said_end += OUTCOME;
     return 1;
 }

@@ -16,7 +16,7 @@ extern "C" {
 enum {
     Z80_DONE = 0,
     Z80_NOTHING = 1,          // no bytes; for z80_row an address outside the image
-    Z80_SHORT = 2,            // too few bytes for the row that they begin
+    Z80_SHORT = 2,            // too few bytes for the row that they begin; `missing` says how many more it takes
     Z80_LONG = 3,             // over four bytes
     Z80_NO_ROOM = 4,          // what is to be written is longer than what is lent
     Z80_IMAGE_SIZE = 5,       // an image that is empty or goes beyond address 65,535
@@ -41,19 +41,22 @@ enum { Z80_DATA = 0, Z80_START = 1, Z80_INSIDE = 2 };
 // operands of three bytes, four data bytes, six T-states, machine cycles, least, most, as crates/replay/README.md says. Answers
 // Z80_DONE; or Z80_NOTHING, Z80_SHORT, Z80_LONG, and then writes the empty record, in which all is zero but the instruction, byte
 // 1, which is NOP, 35; or Z80_NO_ROOM. Where fewer than Z80_RECORD_SIZE bytes are lent, nothing is written, whatever it answers.
-uint8_t z80_record(const uint8_t *ins, size_t ins_len, uint8_t *out, size_t out_len);
+// `missing` is written in any case: for Z80_SHORT the fewest bytes, 1 to 3, that for some choice of them behind `ins` would make
+// it Z80_DONE; with every other answer 0. Another choice may need more: behind ED it is 1, but with 43 there it is 2 again.
+uint8_t z80_record(const uint8_t *ins, size_t ins_len, uint8_t *out, size_t out_len, uint32_t *missing);
 
 // The text of the row that `ins` is, such as "LD\tHL, 1234 [4, 3, 3, 0, 0, 0]", to the front of `out`, and its length to `count`.
-// No zero byte ends it. Answers by the same numbers; where that is not Z80_DONE, `count` is 0 and `out` as it was.
-uint8_t z80_text(const uint8_t *ins, size_t ins_len, uint8_t *out, size_t out_len, uint32_t *count);
+// No zero byte ends it. Answers by the same numbers; where that is not Z80_DONE, `count` is 0 and `out` as it was. `missing` is
+// as with z80_record.
+uint8_t z80_text(const uint8_t *ins, size_t ins_len, uint8_t *out, size_t out_len, uint32_t *count, uint32_t *missing);
 
 // The same with the row's bytes in front: "21 34 12 \t\tLD\tHL, 1234 [4, 3, 3, 0, 0, 0]".
-uint8_t z80_full_text(const uint8_t *ins, size_t ins_len, uint8_t *out, size_t out_len, uint32_t *count);
+uint8_t z80_full_text(const uint8_t *ins, size_t ins_len, uint8_t *out, size_t out_len, uint32_t *count, uint32_t *missing);
 
 // The line of the row at `address`, in an image whose first byte stands at `origin`: the address, a space, the full text and LF
 // to the front of `out`, its length to `count`, and to `passed` how many bytes further the next row begins. Where the image ends
-// before its row does, the line has one byte and a question mark. Answers Z80_DONE, or Z80_IMAGE_SIZE, Z80_NOTHING, Z80_NO_ROOM;
-// both numbers are then 0 and `out` as it was.
+// before its row does, the line has one byte, a question mark and the fewest bytes that are missing, such as "0005 DD \t\t?2\n".
+// Answers Z80_DONE, or Z80_IMAGE_SIZE, Z80_NOTHING, Z80_NO_ROOM; both numbers are then 0 and `out` as it was.
 uint8_t z80_row(const uint8_t *image, size_t image_len, uint16_t origin, uint16_t address, uint8_t *out, size_t out_len,
                 uint32_t *count, uint32_t *passed);
 

@@ -38,14 +38,15 @@ mod linked {
                 count,
                 passed,
                 address,
+                missing,
                 buffer,
             } = &mut lent;
             let out = &mut buffer[..call.room];
             let mut map_altered = false;
             let number = match call.asked {
-                Asked::Bytes(Function::Record, ins) => z80_record(ins, out),
-                Asked::Bytes(Function::Text, ins) => z80_text(ins, out, count),
-                Asked::Bytes(Function::FullText, ins) => z80_full_text(ins, out, count),
+                Asked::Bytes(Function::Record, ins) => z80_record(ins, out, missing),
+                Asked::Bytes(Function::Text, ins) => z80_text(ins, out, count, missing),
+                Asked::Bytes(Function::FullText, ins) => z80_full_text(ins, out, count, missing),
                 Asked::Row(place) => z80_row(place, out, count, passed),
                 Asked::Map(map) => checked(map, address, &mut map_altered),
             };
@@ -85,13 +86,14 @@ mod bridge {
         }
 
         /// The outcome of the next call asked for, which is the one given: number, whether a map was altered, count, bytes
-        /// passed and address, low byte first, buffer.
+        /// passed, address and missing bytes, low byte first, buffer.
         pub fn call(&mut self, _: &Call) -> io::Result<Outcome> {
             let [number, altered] = self.bridge.read()?;
             let lent = Lent {
                 count: u32::from_le_bytes(self.bridge.read()?),
                 passed: u32::from_le_bytes(self.bridge.read()?),
                 address: u32::from_le_bytes(self.bridge.read()?),
+                missing: u32::from_le_bytes(self.bridge.read()?),
                 buffer: self.bridge.read()?,
             };
             Ok(Outcome {

@@ -6,13 +6,20 @@ use crate::arguments::{Map, Place};
 mod sys {
     // Nothing holds these lines to crates/exports: each slice there is a pointer and a length here.
     extern "C" {
-        pub fn z80_record(ins: *const u8, ins_len: usize, out: *mut u8, out_len: usize) -> u8;
+        pub fn z80_record(
+            ins: *const u8,
+            ins_len: usize,
+            out: *mut u8,
+            out_len: usize,
+            missing: *mut u32,
+        ) -> u8;
         pub fn z80_text(
             ins: *const u8,
             ins_len: usize,
             out: *mut u8,
             out_len: usize,
             count: *mut u32,
+            missing: *mut u32,
         ) -> u8;
         pub fn z80_full_text(
             ins: *const u8,
@@ -20,6 +27,7 @@ mod sys {
             out: *mut u8,
             out_len: usize,
             count: *mut u32,
+            missing: *mut u32,
         ) -> u8;
         pub fn z80_row(
             image: *const u8,
@@ -46,19 +54,23 @@ mod sys {
 
 // What is lent is apart and alive by its type, which is all that the functions ask of a caller.
 
-/// The record of `ins`, the empty one where it is refused, at the front of `out`, and the answer number.
-pub fn z80_record(ins: &[u8], out: &mut [u8]) -> u8 {
-    unsafe { sys::z80_record(ins.as_ptr(), ins.len(), out.as_mut_ptr(), out.len()) }
+/// The record of `ins`, the empty one where it is refused, at the front of `out`, in `missing` how many bytes a Short one lacks at
+/// least, else 0, and the answer number.
+pub fn z80_record(ins: &[u8], out: &mut [u8], missing: &mut u32) -> u8 {
+    let (to, room) = (out.as_mut_ptr(), out.len());
+    unsafe { sys::z80_record(ins.as_ptr(), ins.len(), to, room, missing) }
 }
 
-/// The text of `ins` at the front of `out`, its length in `count`, and the answer number.
-pub fn z80_text(ins: &[u8], out: &mut [u8], count: &mut u32) -> u8 {
-    unsafe { sys::z80_text(ins.as_ptr(), ins.len(), out.as_mut_ptr(), out.len(), count) }
+/// The text of `ins` at the front of `out`, its length in `count`, `missing` as above, and the answer number.
+pub fn z80_text(ins: &[u8], out: &mut [u8], count: &mut u32, missing: &mut u32) -> u8 {
+    let (to, room) = (out.as_mut_ptr(), out.len());
+    unsafe { sys::z80_text(ins.as_ptr(), ins.len(), to, room, count, missing) }
 }
 
 /// The same for the full text.
-pub fn z80_full_text(ins: &[u8], out: &mut [u8], count: &mut u32) -> u8 {
-    unsafe { sys::z80_full_text(ins.as_ptr(), ins.len(), out.as_mut_ptr(), out.len(), count) }
+pub fn z80_full_text(ins: &[u8], out: &mut [u8], count: &mut u32, missing: &mut u32) -> u8 {
+    let (to, room) = (out.as_mut_ptr(), out.len());
+    unsafe { sys::z80_full_text(ins.as_ptr(), ins.len(), to, room, count, missing) }
 }
 
 /// The line at a place at the front of `out`, its length in `count`, the bytes passed in `passed`, and the answer number.

@@ -9,12 +9,14 @@ use crate::plain::said::Said;
 /// The bytes that are looked at: more than the largest room lent. Those past a room must stay as they were.
 pub const LOOKED_AT: usize = 64;
 
-/// What a function may write to. One that has no count, passes no bytes or tells no address must leave that number as it was.
+/// What a function may write to. One that has no count, passes no bytes, or tells no address or no missing bytes must leave that
+/// number as it was.
 #[derive(Debug, PartialEq, Eq, Clone, Copy)]
 pub struct Lent {
     pub count: u32,
     pub passed: u32,
     pub address: u32,
+    pub missing: u32,
     pub buffer: [u8; LOOKED_AT],
 }
 
@@ -39,15 +41,17 @@ pub fn filled(k: usize) -> Lent {
         count: 0xA5A5_0000 + k as u32,
         passed: 0x5A5A_0000 + k as u32,
         address: 0xC3C3_0000 + k as u32,
+        missing: 0x3C3C_0000 + k as u32,
         buffer: std::array::from_fn(|place| (31 * k + 7 * place + 1) as u8),
     }
 }
 
 /// Where the room holds what the original says, that at the buffer's front and its numbers; else zeros and a refusal, with
-/// its address where the function tells one. A refused decode has the empty record, where the room holds that.
+/// its address or its missing bytes where the function tells them. A refused decode has the empty record, where the room holds
+/// that.
 pub fn expected(call: &Call, said: &Said) -> Outcome {
     let mut lent = call.before;
-    let (number, count, passed, address) = match said {
+    let (number, count, passed, address) = match &said.written {
         Ok(written) if written.bytes.len() <= call.room => {
             let count = written.bytes.len();
             lent.buffer[..count].copy_from_slice(&written.bytes);
@@ -57,12 +61,14 @@ pub fn expected(call: &Call, said: &Said) -> Outcome {
         Err(refused) => (refused.refusal as u8, 0, 0, refused.address),
     };
     match call.asked {
-        Asked::Bytes(Function::Record, _) => {
-            if said.is_err() && RECORD_SIZE <= call.room {
+        Asked::Bytes(function, _) => {
+            lent.missing = said.missing as u32;
+            if *function != Function::Record {
+                lent.count = count as u32;
+            } else if said.written.is_err() && RECORD_SIZE <= call.room {
                 lent.buffer[..RECORD_SIZE].copy_from_slice(&EMPTY);
             }
         }
-        Asked::Bytes(_, _) => lent.count = count as u32,
         Asked::Row(_) => (lent.count, lent.passed) = (count as u32, passed as u32),
         Asked::Map(_) => lent.address = address as u32,
     }
@@ -89,8 +95,8 @@ fn shown(outcome: Outcome) -> String {
         true => ", map altered",
         false => "",
     };
-    let (address, buffer) = (lent.address, lent.buffer);
-    format!("{number}, {numbers}, address {address:04X}{altered}, {buffer:02X?}")
+    let (address, missing, buffer) = (lent.address, lent.missing, lent.buffer);
+    format!("{number}, {numbers}, address {address:04X}, missing {missing}{altered}, {buffer:02X?}")
 }
 
 #[cfg(test)]
@@ -173,6 +179,8 @@ mod tests {
         assert!(is_seen(|found| found.lent.passed ^= 1 << 31));
         assert!(is_seen(|found| found.lent.address += 1));
         assert!(is_seen(|found| found.lent.address ^= 1 << 31));
+        assert!(is_seen(|found| found.lent.missing += 1));
+        assert!(is_seen(|found| found.lent.missing ^= 1 << 31));
         assert!(is_seen(|found| found.map_altered = true));
         for place in 0..LOOKED_AT {
             assert!(is_seen(|found| found.lent.buffer[place] ^= 1));
@@ -205,11 +213,19 @@ mod tests {
     /// In a room for it the empty record, and nothing in a smaller one; the number is the same.
     #[test]
     fn refused_records_by_hand() {
-        let cases: [(&[u8], u8); 3] = [(&[], 1), (&[0xDD, 0x23, 0x00], 2), (&[0x00; 5], 3)];
-        for (ins, number) in cases {
+        let cases: [(&[u8], u8, u32); 4] = [
+            (&[], 1, 0),
+            (&[0xDD], 2, 3),
+            (&[0xDD, 0x23, 0x00], 2, 1),
+            (&[0x00; 5], 3, 0),
+        ];
+        for (ins, number, missing) in cases {
             let asked = Asked::Bytes(Record, ins.to_vec());
             for room in [0, 23, 24, 25] {
-                let mut lent = filled(5);
+                let mut lent = Lent {
+                    missing,
+                    ..filled(5)
+                };
                 if room >= 24 {
                     lent.buffer[..24].fill(0);
                     lent.buffer[1] = 35;
@@ -231,11 +247,33 @@ mod tests {
         fits(&full, longest, (52, passed), (0, passed));
     }
 
+    /// A text that is Short says so before the room is looked at; one that has no room lacks no bytes.
+    #[test]
+    fn missing_by_hand() {
+        let cases: [(&[u8], u8, u32); 4] = [
+            (&[0xED], 2, 1),
+            (&[0xED, 0x43], 2, 2),
+            (&[0x00], 4, 0),
+            (&[], 1, 0),
+        ];
+        for (ins, number, missing) in cases {
+            for function in [Text, FullText] {
+                let found = outcome(&Asked::Bytes(function, ins.to_vec()), 22);
+                let lent = Lent {
+                    count: 0,
+                    missing,
+                    ..filled(5)
+                };
+                assert_eq!((found.number, found.lent), (number, lent), "{ins:02X?}");
+            }
+        }
+    }
+
     #[test]
     fn rows_by_hand() {
         let longest = b"ABCD DD CB 80 C7 \t\tSET\t00, (IX-128), A [4, 4, 3, 5, 4, 3]\n";
         fits(&front(&[0xDD, 0xCB, 0x80, 0xC7]), longest, (58, 4), (0, 0));
-        fits(&front(&[0xDD, 0x23]), b"ABCD DD \t\t?\n", (12, 1), (0, 0));
+        fits(&front(&[0xDD, 0x23]), b"ABCD DD \t\t?2\n", (13, 1), (0, 0));
     }
 
     /// The image's size, then the address, then the room.

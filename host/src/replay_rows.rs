@@ -5,6 +5,7 @@ use crate::asked::Asked;
 use crate::function::Function;
 use crate::inputs;
 use crate::outcome::{expected, Call, Lent, Outcome, LOOKED_AT};
+use crate::plain::missing::missing;
 use crate::plain::record::EMPTY;
 use crate::plain::said::{said, said_of_bytes};
 use crate::stored::{distinct, padded, Row};
@@ -40,13 +41,13 @@ fn texts() -> Vec<Row> {
     rows
 }
 
-/// The line of a record: bytes, number, the record's bytes, which are the empty one's where the number is not 0.
+/// The line of a record: bytes, number, missing bytes, the record's bytes, which are the empty one's where the number is not 0.
 fn record_row(ins: &[u8]) -> Row {
     let (number, record) = match said_of_bytes(Function::Record, ins) {
         Ok(record) => (0, record),
         Err(refusal) => (refusal as u8, EMPTY.to_vec()),
     };
-    let mut line = format!("{}{number}", shown(ins));
+    let mut line = format!("{}{number} {}", shown(ins), missing(ins));
     for byte in record {
         write!(line, " {byte:02X}").unwrap();
     }
@@ -57,7 +58,7 @@ fn record_row(ins: &[u8]) -> Row {
     }
 }
 
-/// The line of a text: bytes, number, the text's length, and a buffer that was full of dots.
+/// The line of a text: bytes, number, missing bytes, the text's length, and a buffer that was full of dots.
 fn text_row(function: Function, ins: &[u8], room: usize) -> Row {
     let asked = Asked::Bytes(function, ins.to_vec());
     let call = Call {
@@ -67,11 +68,12 @@ fn text_row(function: Function, ins: &[u8], room: usize) -> Row {
             count: 0,
             passed: 0,
             address: 0,
+            missing: 0,
             buffer: [b'.'; LOOKED_AT],
         },
     };
     let Outcome { number, lent, .. } = expected(&call, &said(&asked));
-    let numbers = format!("{}{number} {} ", shown(ins), lent.count);
+    let numbers = format!("{}{number} {} {} ", shown(ins), lent.missing, lent.count);
     Row {
         request: request(function, room, ins),
         line: [numbers.as_bytes(), &lent.buffer[..PRINTED], b"\n"].concat(),

@@ -10,8 +10,8 @@ use crate::outcome::{expected, Call, Lent, Outcome, LOOKED_AT};
 use crate::plain::said::said;
 use crate::stored::{distinct, padded, Row};
 
-/// The answer's number and the record.
-pub const OUTCOME_SIZE: usize = 1 + RECORD_SIZE;
+/// The answer's number, the fewest missing bytes and the record.
+pub const OUTCOME_SIZE: usize = 2 + RECORD_SIZE;
 
 /// What stands before a free byte in the stored requests: nothing, DD CB with a displacement, and as much as there can be.
 const BEFORE_FREE: [&[u8]; 3] = [&[], &[0xDD, 0xCB, 0x80], &[0x00; 5]];
@@ -57,15 +57,15 @@ pub fn call<'a>(asked: &'a Asked) -> Call<'a> {
     Call {
         asked,
         room: RECORD_SIZE,
-        before: lent(&[0; RECORD_SIZE]),
+        before: lent(0, &[0; RECORD_SIZE]),
     }
 }
 
 /// What the program writes for an input, read as the outcome of its call.
-pub fn outcome([number, record @ ..]: [u8; OUTCOME_SIZE]) -> Outcome {
+pub fn outcome([number, missing, record @ ..]: [u8; OUTCOME_SIZE]) -> Outcome {
     Outcome {
         number,
-        lent: lent(&record),
+        lent: lent(missing, &record),
         map_altered: false,
     }
 }
@@ -73,16 +73,18 @@ pub fn outcome([number, record @ ..]: [u8; OUTCOME_SIZE]) -> Outcome {
 /// What the original has it write.
 fn written(asked: &Asked) -> Vec<u8> {
     let Outcome { number, lent, .. } = expected(&call(asked), &said(asked));
-    [&[number], &lent.buffer[..RECORD_SIZE]].concat()
+    let numbers = [number, lent.missing as u8];
+    [&numbers, &lent.buffer[..RECORD_SIZE]].concat()
 }
 
-fn lent(record: &[u8; RECORD_SIZE]) -> Lent {
+fn lent(missing: u8, record: &[u8; RECORD_SIZE]) -> Lent {
     let mut buffer = [0; LOOKED_AT];
     buffer[..RECORD_SIZE].copy_from_slice(record);
     Lent {
         count: 0,
         passed: 0,
         address: 0,
+        missing: missing.into(),
         buffer,
     }
 }
@@ -107,19 +109,20 @@ mod tests {
     #[test]
     fn outcomes_by_hand() {
         let jump = [
-            0, 2, 28, 11, 0, 0, 3, 0x82, 0xFF, 0, 0, 0, 0x20, 0x80, 0, 0, 4, 3, 5, 0, 0, 0, 3, 7,
-            12,
+            0, 0, 2, 28, 11, 0, 0, 3, 0x82, 0xFF, 0, 0, 0, 0x20, 0x80, 0, 0, 4, 3, 5, 0, 0, 0, 3,
+            7, 12,
         ];
-        let refused = |number| {
+        let refused = |number, missing| {
             let mut outcome = [0; OUTCOME_SIZE];
-            (outcome[0], outcome[2]) = (number, 35);
+            (outcome[0], outcome[1], outcome[3]) = (number, missing, 35);
             outcome
         };
-        let cases: [(&[u8], _); 4] = [
+        let cases: [(&[u8], _); 5] = [
             (&[0x20, 0x80], jump),
-            (&[], refused(1)),
-            (&[0xDD, 0x23, 0x00], refused(2)),
-            (&[0x00; 5], refused(3)),
+            (&[], refused(1, 0)),
+            (&[0xDD], refused(2, 3)),
+            (&[0xDD, 0x23, 0x00], refused(2, 1)),
+            (&[0x00; 5], refused(3, 0)),
         ];
         for (ins, by_hand) in cases {
             let asked = Asked::Bytes(Record, ins.to_vec());

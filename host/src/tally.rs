@@ -7,16 +7,18 @@ use crate::outcome::{difference, Call, Outcome};
 /// Differences past these are counted and not shown.
 const SHOWN: usize = 10;
 
-/// Besides the answer numbers: the row that is Done although its bytes are Short.
-const SHORT_ROW: usize = REFUSALS.len() + 1;
+/// Besides the answer numbers: of a Short input, or of a row that is Done although its bytes are Short, one to three are missing.
+const ONE_MISSING: usize = REFUSALS.len() + 1;
+const TWO_MISSING: usize = ONE_MISSING + 1;
+const THREE_MISSING: usize = TWO_MISSING + 1;
 
-const KINDS: usize = SHORT_ROW + 1;
+const KINDS: usize = THREE_MISSING + 1;
 
 /// What the functions of a row's bytes may answer.
-pub const OF_BYTES: [usize; 5] = [0, 1, 2, 3, 4];
+pub const OF_BYTES: [usize; 8] = [0, 1, 2, 3, 4, ONE_MISSING, TWO_MISSING, THREE_MISSING];
 
 /// What `z80_row` may answer.
-pub const OF_ROWS: [usize; 5] = [0, 1, 4, 5, SHORT_ROW];
+pub const OF_ROWS: [usize; 7] = [0, 1, 4, 5, ONE_MISSING, TWO_MISSING, THREE_MISSING];
 
 /// What `z80_map_check` may answer.
 pub const OF_MAPS: [usize; 10] = [0, 5, 6, 7, 8, 9, 10, 11, 12, 13];
@@ -25,7 +27,7 @@ pub const OF_MAPS: [usize; 10] = [0, 5, 6, 7, 8, 9, 10, 11, 12, 13];
 fn shown(kind: usize) -> String {
     match name(kind) {
         Some(name) => format!("{kind} {name}"),
-        None => "Short rows among the Done".into(),
+        None => format!("Short by {}", kind - REFUSALS.len()),
     }
 }
 
@@ -41,8 +43,8 @@ impl Tally {
     pub fn add(&mut self, call: &Call, expected: Outcome, found: Outcome) -> Option<String> {
         self.calls += 1;
         self.met[expected.number as usize] += 1;
-        if is_short_row(call, &expected) {
-            self.met[SHORT_ROW] += 1;
+        if let missing @ 1.. = told_missing(call, &expected) {
+            self.met[REFUSALS.len() + missing] += 1;
         }
         let difference = difference(call, expected, found)?;
         self.differing += 1;
@@ -65,17 +67,24 @@ impl Tally {
     }
 }
 
-fn is_short_row(call: &Call, expected: &Outcome) -> bool {
+/// How many missing bytes are told: in the number for them, or at the end of a Short row's line.
+fn told_missing(call: &Call, expected: &Outcome) -> usize {
     let lent = &expected.lent;
-    matches!(call.asked, Asked::Row(_))
-        && expected.number == 0
-        && lent.buffer[..lent.count as usize].ends_with(b"?\n")
+    match call.asked {
+        Asked::Bytes(..) => lent.missing as usize,
+        Asked::Row(_) => match lent.buffer[..lent.count as usize] {
+            [.., b'?', digit, b'\n'] => (digit - b'0') as usize,
+            _ => 0,
+        },
+        Asked::Map(_) => 0,
+    }
 }
 
 #[cfg(test)]
 mod tests {
     use super::*;
     use crate::arguments::Place;
+    use crate::function::Function;
     use crate::outcome::{expected, filled};
     use crate::plain::said::said;
 
@@ -101,20 +110,43 @@ mod tests {
     #[test]
     fn counted_by_answer() {
         let mut tally = Tally::default();
-        assert!(!add(&mut tally, &[0xDD], 11, 0));
+        assert!(!add(&mut tally, &[0xDD], 12, 0));
         assert!(!add(&mut tally, &[0x00], 58, 0));
         assert!(!add(&mut tally, &[], 58, 0));
-        let short = "Short rows among the Done";
-        assert_eq!(tally.missing(&OF_ROWS, 1), ["1 Nothing", short]);
-        assert!(!add(&mut tally, &[0xDD], 12, 0));
-        assert_eq!(tally.missing(&OF_ROWS, 1), ["1 Nothing"]);
+        let [one, two, three] = ["Short by 1", "Short by 2", "Short by 3"];
+        let unmet = tally.missing(&OF_ROWS, 1);
+        assert_eq!(unmet, ["1 Nothing", one, two, three]);
+        assert!(!add(&mut tally, &[0xDD], 13, 0));
+        assert!(!add(&mut tally, &[0xED, 0x43], 13, 0));
+        assert_eq!(tally.missing(&OF_ROWS, 1), ["1 Nothing", one]);
         let twice = tally.missing(&OF_ROWS, 2);
-        assert_eq!(twice, ["1 Nothing", "4 NoRoom", "5 ImageSize", short]);
+        let once = ["4 NoRoom", "5 ImageSize", one, two, three];
+        assert_eq!(twice, [&["1 Nothing"], &once[..]].concat());
         assert_eq!(
             tally.counts(),
-            "0 Done: 2, 4 NoRoom: 1, 5 ImageSize: 1, Short rows among the Done: 1"
+            "0 Done: 3, 4 NoRoom: 1, 5 ImageSize: 1, Short by 2: 1, Short by 3: 1"
         );
-        assert_eq!((tally.calls, tally.differing), (4, 0));
+        assert_eq!((tally.calls, tally.differing), (5, 0));
+    }
+
+    /// An input of bytes is counted by the number for its missing ones, in any room.
+    #[test]
+    fn counted_by_missing_bytes() {
+        let mut tally = Tally::default();
+        for ins in [&[0xDD][..], &[0xED], &[0xED, 0x43], &[0x00], &[]] {
+            let asked = Asked::Bytes(Function::Record, ins.to_vec());
+            let call = Call {
+                asked: &asked,
+                room: 0,
+                before: filled(0),
+            };
+            let expected = expected(&call, &said(&asked));
+            assert_eq!(tally.add(&call, expected, expected), None);
+        }
+        assert_eq!(
+            tally.counts(),
+            "1 Nothing: 1, 2 Short: 3, 4 NoRoom: 1, Short by 1: 1, Short by 2: 1, Short by 3: 1"
+        );
     }
 
     #[test]

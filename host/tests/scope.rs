@@ -6,6 +6,7 @@ use host::function::Function::{FullText, Record, Text};
 use host::original::disas;
 use host::pages::{edged, ED_BEHIND, PAGES};
 use host::plain::decoded;
+use host::plain::missing::missing;
 use host::plain::said::said_of_bytes;
 use std::panic::catch_unwind;
 
@@ -127,9 +128,37 @@ fn short_exactly_below_the_bytes_needed() {
     }
 }
 
+/// Those that some choice of the bytes to come asks for: behind ED alone it is the code that decides, and two are the fewest.
+fn fewest_needed(ins: &[u8]) -> usize {
+    match ins {
+        [] => 0,
+        [0xED] => 2,
+        [first] => needed(*first, 0x00),
+        [first, second, ..] => needed(*first, *second),
+    }
+}
+
+/// Document 02's number, which is found by trying, on every input of one to three bytes.
+#[test]
+fn missing_up_to_the_bytes_needed() {
+    for bytes in 0..1_u32 << 24 {
+        let [_, three @ ..] = bytes.to_be_bytes();
+        let lengths = match three {
+            [_, 0x00, 0x00] => 1..=3,
+            [_, _, 0x00] => 2..=3,
+            _ => 3..=3,
+        };
+        for ins in lengths.map(|length| &three[..length]) {
+            let lacking = fewest_needed(ins).saturating_sub(ins.len());
+            assert_eq!(missing(ins), lacking, "{ins:02X?}");
+        }
+    }
+}
+
 #[test]
 fn nothing_for_no_bytes() {
     assert_eq!(decoded(&[]), Err(Refusal::Nothing));
+    assert_eq!(missing(&[]), 0);
 }
 
 /// What document 01 says of the original beside its numbers 1 and 3.

@@ -1,5 +1,5 @@
 -- The pages and the prefix step, as the decoder goes through them. No promise rests on this file: they are proved equal to the table. Definitions only.
-use Prim.Native.Nat.{ℕ, _/_, _%_}
+use Prim.Native.Nat.{ℕ, _-_, _/_, _%_}
 use mathlib.Core.Bool.{cond, _||_}
 use mathlib.Core.List.{List}
 use lib.Dec.{eqb, ltb}
@@ -21,20 +21,20 @@ nop = 0x4000001100000023
 abbrev pub behindCode : ℕ → ℕ
 behindCode b = cond (isPrefix b || (eqb b 0xCB || eqb b 0xED)) 2 1
 
--- the row r, if all its bytes are among n
+-- the row r, if all its bytes are among n; else how many are missing, a number below 16
 unfoldable pub wholeOf : ℕ → ℕ → ℕ
-wholeOf r n = cond (ltb n (r / 0x100000000 % 16)) 0 r
+wholeOf r n = cond (ltb n (r / 0x100000000 % 16)) (r / 0x100000000 % 16 - n) r
 
 -- a row of the ED page; an undefined code in four bytes is a NOP
 unfoldable pub wholeEd : ℕ → ℕ → ℕ
-wholeEd r n = cond (eqb r 0) (cond (eqb n 4) nop 0) (wholeOf r n)
+wholeEd r n = cond (eqb r 0) (cond (eqb n 4) nop (4 - n)) (wholeOf r n)
 
 -- the row of the bytes s, p being what the prefix step makes of them
 unfoldable pub chainOf : ℕ → List ℕ → ℕ
 chainOf p s =
     cond (eqb (length s) 0) 0
-    (cond (isPrefix (first s)) (cond (ltb (length s) 4) 0 p)
-    (cond (eqb (first s) 0xED) (wholeEd (packed (getD ed (second s) gap)) (length s))
+    (cond (isPrefix (first s)) (cond (ltb (length s) 4) (4 - length s) p)
+    (cond (eqb (first s) 0xED) (cond (eqb (length s) 1) 1 (wholeEd (packed (getD ed (second s) gap)) (length s)))
     (cond (eqb (first s) 0xCB) (wholeOf (packed (getD cb (second s) gap)) (length s))
     (wholeOf (packed (getD plain (first s) gap)) (length s)))))
 
@@ -48,7 +48,7 @@ prefixOf r s =
     cond (eqb (second s) 0xCB) (bitsOf (first s) (getD s 3 0) (packed (getD cb (getD s 3 0) gap)))
     (cond (eqb (second s) 0xEB) nop
     (cond (eqb (second s) 0x36) (loadOf (first s))
-    (cond (eqb r 0) nop
+    (cond (ltb r 16) nop
     (changedOf (first s) r))))
 
 -- the whole decoder: a prefix hands the rest to the pages

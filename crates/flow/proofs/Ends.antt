@@ -14,7 +14,7 @@ use Rattle.table.specs.Row.{ix, iy, Row, row, gap, read}
 use Rattle.table.specs.Plain.{plain}
 use Rattle.table.specs.Cb.{cb}
 use Rattle.table.specs.Ed.{ed}
-use Rattle.table.specs.Decode.{rowOf, operandBytes, recordOf, four, decodeOf}
+use Rattle.table.specs.Decode.{rowOf, operandBytes, recordOf, four, rust, decodeOf}
 use Rattle.table.proofs.Rows.{Everywhere, row-holds}
 use Rattle.table.proofs.Done.{decides}
 use Rattle.marking.specs.declared.Flow.{Flow}
@@ -59,7 +59,8 @@ module _ (a : ℕ) (s : List ℕ) where
   of-row (row i x y z n t) d w e = subst (λ (f : Flow). T (told f i (read x s))) e w
 
 pub register-jumps : (a : ℕ) (s : List ℕ) → decodeOf s .answer ≡ Answer.Done → flowOf a (decodeOf s .rec) ≡ Flow.RegisterJump → T (jumps (decodeOf s .rec .ins) && hasPointer (decodeOf s .rec .op1))
+unfolding decodeOf
 register-jumps a s done e =
-    let made : decodeOf s .rec ≡ recordOf (rowOf s) (operandBytes s) (four s) = ap (λ (u : Decoded). u .rec) (decides s done .made) in
+    let made : decodeOf s .rec ≡ recordOf (rowOf s) (operandBytes s) (four s) = ap (λ (u : Decoded). u .rec) (decides rust s done .made) in
     subst (λ (o : OpCode). T (jumps (o .ins) && hasPointer (o .op1))) (sym made)
     (of-row a (operandBytes s) (rowOf s) (four s) (row-holds (tells a (operandBytes s)) (all-tell a (operandBytes s)) s) (subst (λ (o : OpCode). flowOf a o ≡ Flow.RegisterJump) made e))

@@ -20,7 +20,7 @@ fits w Answer.Done a r keeps n f e =
     let same : r .length .0 ≡ n = cc e in
     record { least = omega (arith, k .length-least); most = omega (arith, k .length-most); given = omega (arith, k .length-given) }
 fits w Answer.Nothing a r keeps n f e = let z : _≡_ {A = ℕ} 0 1 = cc e in absurd (omega arith)
-fits w Answer.Short a r keeps n f e = let z : _≡_ {A = ℕ} 0 1 = cc e in absurd (omega arith)
+fits w (Answer.Short k) a r keeps n f e = let z : _≡_ {A = ℕ} 0 1 = cc e in absurd (omega arith)
 fits w Answer.Long a r keeps n f e = let z : _≡_ {A = ℕ} 0 1 = cc e in absurd (omega arith)
 
 pub sane : Sane lookOf

@@ -140,7 +140,7 @@ flowOf a r = flowBy (r .ins) (leadOf a (r .op1)) (leadOf a (r .op2))
 abbrev pub viewBy : Answer → ℕ → OpCode → View
 viewBy Answer.Done a r = View.Row (r .length .0) (flowOf a r)
 viewBy Answer.Nothing a r = View.Refused
-viewBy Answer.Short a r = View.Refused
+viewBy (Answer.Short k) a r = View.Refused
 viewBy Answer.Long a r = View.Refused
 
 abbrev pub viewOf : ℕ → Decoded → View

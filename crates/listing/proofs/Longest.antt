@@ -11,7 +11,7 @@ use Rattle.table.specs.Decode.{decodeOf}
 use Rattle.table.specs.Consequences.{AllBytes, first}
 use Rattle.table.proofs.Pages.{chosen}
 use Rattle.wording.specs.declared.Written.{Written}
-use Rattle.wording.specs.Digits.{hex8, hex16}
+use Rattle.wording.specs.Digits.{hex8, hex16, decimal, digitAt}
 use Rattle.wording.specs.Text.{fullText}
 use Rattle.wording.proofs.Longest.{full-most, drop-bytes}
 use Rattle.line.specs.Line.{decodedLine, shortLine, lineBy}
@@ -21,16 +21,20 @@ use Rattle.listing.specs.Rows.{lineOf, passedOf}
 use Rattle.listing.specs.Answers.{countOf, passedOver, listed, givenBy, rowAnswer}
 use Rattle.listing.proofs.Passed.{passed-most}
 
-short-most : (a b : ℕ) → length (shortLine a b) ≤ 58
-unfolding shortLine hex8 hex16
-short-most a b = omega arith
+digit-most : (n p : ℕ) → length (digitAt n p) ≤ 1
+unfolding digitAt
+digit-most n p = chosen (λ (l : List ℕ). length l ≤ 1) (leb p n) _ _ (omega arith) (omega arith)
+
+short-most : (a b k : ℕ) → length (shortLine a b k) ≤ 58
+unfolding shortLine hex8 hex16 decimal
+short-most a b k = simp length-append (omega (arith, digit-most k 10000, digit-most k 1000, digit-most k 100, digit-most k 10))
 
 by-most : (x : Answer) (a : ℕ) (r : OpCode) (b : ℕ) → (x ≡ Answer.Done → length (fullText r) ≤ 52) → length (lineBy x a r b) ≤ 58
 unfolding decodedLine hex8 hex16
 by-most Answer.Done a r b most = simp length-append (omega (arith, most refl))
-by-most Answer.Nothing a r b most = short-most a b
-by-most Answer.Short a r b most = short-most a b
-by-most Answer.Long a r b most = short-most a b
+by-most Answer.Nothing a r b most = short-most a b 0
+by-most (Answer.Short k) a r b most = short-most a b (k .0)
+by-most Answer.Long a r b most = short-most a b 0
 
 pub line-most : (a : ℕ) (w : List ℕ) → AllBytes w → length (lineOf a w) ≤ 58
 unfolding lineOf

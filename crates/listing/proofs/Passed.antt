@@ -26,7 +26,7 @@ one n = record { least = omega arith; most = omega arith; looked = λ some. some
 passes : (n : ℕ) (a : Answer) (r : OpCode) → (a ≡ Answer.Done → Keeps n r) → Passes n (passedBy a r)
 passes n Answer.Done r keeps = let k = keeps refl in record { least = k .length-least; most = k .length-most; looked = λ some. k .length-given }
 passes n Answer.Nothing r keeps = one n
-passes n Answer.Short r keeps = one n
+passes n (Answer.Short k) r keeps = one n
 passes n Answer.Long r keeps = one n
 
 of : (w : List ℕ) → Passes (length w) (passedOf w)

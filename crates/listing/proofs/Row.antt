@@ -8,7 +8,7 @@ use native.Mathlib.Omega.{arith}
 use lib.ListN.{length, take, drop, length-take, length-drop}
 use borrow.Author.Tests.{le-ltb, lt-leb}
 use Rattle.table.specs.declared.Answer.{Answer}
-use Rattle.table.specs.Decode.{decodeOf}
+use Rattle.table.specs.Decode.{numberOf, decodeOf}
 use Rattle.table.proofs.Answers.{nothing-exactly, long-exactly}
 use Rattle.wording.specs.Answers.{fitted}
 use Rattle.image.specs.Places.{wrongSize, outside, window, windowAt}
@@ -19,13 +19,13 @@ use Rattle.image.proofs.Window.{window-size}
 use Rattle.listing.proofs.Passed.{passed-within}
 
 -- a row's window is Done or Short: it is not empty, and has no more than four bytes
-told : (a : Answer) → (a ≡ Answer.Nothing → ⊥) → (a ≡ Answer.Long → ⊥) → (a ≡ Answer.Done) ⊎ (a ≡ Answer.Short)
+told : (a : Answer) → (a ≡ Answer.Nothing → ⊥) → (a ≡ Answer.Long → ⊥) → (numberOf a ≡ 0) ⊎ (numberOf a ≡ 2)
 told Answer.Done nothing long = inl refl
 told Answer.Nothing nothing long = absurd (nothing refl)
-told Answer.Short nothing long = inr refl
+told (Answer.Short k) nothing long = inr refl
 told Answer.Long nothing long = absurd (long refl)
 
-pub done-or-short : (s : List ℕ) → 1 ≤ length s → (decodeOf (window s) .answer ≡ Answer.Done) ⊎ (decodeOf (window s) .answer ≡ Answer.Short)
+pub done-or-short : (s : List ℕ) → 1 ≤ length s → (numberOf (decodeOf (window s) .answer) ≡ 0) ⊎ (numberOf (decodeOf (window s) .answer) ≡ 2)
 done-or-short s some =
     let n = window-size s in
     told (decodeOf (window s) .answer) (λ e. omega (arith, nothing-exactly (window s) .0 e, n)) (λ e. omega (arith, long-exactly (window s) .0 e, n))

@@ -33,7 +33,7 @@ passedOver Listed.NoRoom = 0
 abbrev pub listed : Written → ℕ → Listed
 listed (Written.Done n) p = Listed.Done n p
 listed Written.Nothing p = Listed.NoRoom
-listed Written.Short p = Listed.NoRoom
+listed (Written.Short k) p = Listed.NoRoom
 listed Written.Long p = Listed.NoRoom
 listed Written.NoRoom p = Listed.NoRoom
 

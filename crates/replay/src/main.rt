@@ -34,35 +34,38 @@ fn write_bytes(bytes: &[u8], before: &[u8], behind: &[u8]) {
     }
 }
 
-// The input bytes and the answer number.
-fn write_head(ins: &[u8], number: u8) {
+// The input bytes, the answer number and the fewest missing bytes.
+fn write_head(ins: &[u8], number: u8, missing: u32) {
     write_bytes(ins, b"", b" ");
-    io::write_all(STDOUT_FILENO, &[b'=', b' ', digit(number)]);
+    io::write_all(STDOUT_FILENO, &[b'=', b' ', digit(number), b' ']);
+    io::print_decimal(STDOUT_FILENO, missing as u64);
 }
 
 // The record's bytes, also those of a refusal, which begin as no record's.
 fn write_record(ins: &[u8]) {
     let mut record = [0xFFu8; 24];
-    let number = z80_record(ins, &mut record);
-    write_head(ins, number);
+    let mut missing = u32::MAX;
+    let number = z80_record(ins, &mut record, &mut missing);
+    write_head(ins, number, missing);
     write_bytes(&record, b" ", b"");
 }
 
 // The text asked for: 1 is the plain one, another number the full one.
-fn text(asked: u8, ins: &[u8], out: &mut [u8], count: &mut u32) -> u8 {
+fn text(asked: u8, ins: &[u8], out: &mut [u8], count: &mut u32, missing: &mut u32) -> u8 {
     if asked == 1 {
-        return z80_text(ins, out, count);
+        return z80_text(ins, out, count, missing);
     }
-    z80_full_text(ins, out, count)
+    z80_full_text(ins, out, count, missing)
 }
 
-// The count, which begins as no text's, and the buffer as it is then.
+// The count, which begins as no text's, as the missing bytes do, and the buffer as it is then.
 fn write_text(asked: u8, ins: &[u8], buffer: &mut [u8], room: usize)
     requires { ⌜ room ≤ length (now buffer) ⌝ }
 {
     let mut count = u32::MAX;
-    let number = text(asked, ins, &mut buffer[0..room], &mut count);
-    write_head(ins, number);
+    let mut missing = u32::MAX;
+    let number = text(asked, ins, &mut buffer[0..room], &mut count, &mut missing);
+    write_head(ins, number, missing);
     io::write_all(STDOUT_FILENO, b" ");
     io::print_decimal(STDOUT_FILENO, count as u64);
     io::write_all(STDOUT_FILENO, b" ");

@@ -1,6 +1,7 @@
 // Runs the stages: for each request on standard input the outcomes of its inputs on standard output, as README.md says.
 ghost use Prim.Native.Nat.{_+_, _≤_};
 ghost use lib.ListN.{length};
+use answers::decodes::missing;
 use answers::decodes::number;
 use layout::layout;
 use libc::STDIN_FILENO;
@@ -19,11 +20,11 @@ const FIXED_MAX: u8 = 5;
 // The longest input: five fixed bytes and two free ones.
 const INPUT_SIZE: usize = 7;
 
-// An outcome: the answer's number and the record.
-const OUTCOME_SIZE: usize = 25;
+// An outcome: the answer's number, the fewest missing bytes, and the record.
+const OUTCOME_SIZE: usize = 26;
 
 // 256 outcomes go out at once: a write for each is slow under the emulator.
-const BUFFER_SIZE: usize = 6400;
+const BUFFER_SIZE: usize = 6656;
 
 // Whether the run goes on, and the place of the next outcome in the buffer.
 struct Step {
@@ -40,16 +41,17 @@ fn write_front(out: &[u8], count: usize)
 // The outcome of the first bytes goes to its place; where the next one has no room behind it, the buffer is written.
 fn add(ins: &[u8], count: usize, out: &mut [u8], at: usize) -> usize
     requires { ⌜ count ≤ length (now ins) ⌝ }
-    requires { ⌜ at + 25 ≤ length (now out) ⌝ }
-    ensures { λ next. ⌜ next + 25 ≤ length (now (out .entry)) ⌝ }
+    requires { ⌜ at + 26 ≤ length (now out) ⌝ }
+    ensures { λ next. ⌜ next + 26 ≤ length (now (out .entry)) ⌝ }
 {
     let decoded = disas(&ins[0..count]);
     let answer = decoded.answer;
     let rec = decoded.rec;
     let record = layout(rec);
     let end = at + OUTCOME_SIZE;
-    let behind = put(out, at, number(answer));
-    put_bytes(out, behind, &record);
+    let second = put(out, at, number(answer));
+    let third = put(out, second, missing(answer));
+    put_bytes(out, third, &record);
     if out.len() - end < OUTCOME_SIZE {
         write_front(out, end);
         return 0;
@@ -66,8 +68,8 @@ fn add_all(
     at: usize,
 ) -> usize
     requires { ⌜ fixed + free ≤ 7 ⌝ }
-    requires { ⌜ at + 25 ≤ 6400 ⌝ }
-    ensures { λ next. ⌜ next + 25 ≤ 6400 ⌝ }
+    requires { ⌜ at + 26 ≤ 6656 ⌝ }
+    ensures { λ next. ⌜ next + 26 ≤ 6656 ⌝ }
 {
     if free == 0 {
         return add(ins, fixed, out, at);
@@ -88,8 +90,8 @@ fn answer(
     out: &mut [u8; BUFFER_SIZE],
     at: usize,
 ) -> Step
-    requires { ⌜ at + 25 ≤ 6400 ⌝ }
-    ensures { λ step. ⌜ step .at + 25 ≤ 6400 ⌝ }
+    requires { ⌜ at + 26 ≤ 6656 ⌝ }
+    ensures { λ step. ⌜ step .at + 26 ≤ 6656 ⌝ }
 {
     if FREE_MAX < free {
         return Step { on: false, at };
@@ -104,8 +106,8 @@ fn answer(
 
 // Answers the next request: one that is cut off or can't be answered ends the run.
 fn answer_next(out: &mut [u8; BUFFER_SIZE], at: usize) -> Step
-    requires { ⌜ at + 25 ≤ 6400 ⌝ }
-    ensures { λ step. ⌜ step .at + 25 ≤ 6400 ⌝ }
+    requires { ⌜ at + 26 ≤ 6656 ⌝ }
+    ensures { λ step. ⌜ step .at + 26 ≤ 6656 ⌝ }
 {
     let mut request = [0u8; REQUEST_SIZE];
     let got = io::read_full(STDIN_FILENO, &mut request);

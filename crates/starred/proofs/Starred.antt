@@ -21,4 +21,4 @@ all-starred = (refl, (refl, (refl, (refl, (refl, (refl, (refl, (refl, (refl, (re
 
 pub all-requested : All requested
 unfolding signedOf relativeOf plain cb ed behindRow pageRow rowOf decodeOf sum
-all-requested = (refl, (refl, (refl, (refl, (refl, tt)))))
+all-requested = (refl, (refl, (refl, (refl, (refl, (refl, (refl, (refl, (refl, tt)))))))))

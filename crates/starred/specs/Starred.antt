@@ -16,7 +16,7 @@ use Rattle.opcode.specs.declared.instruction.Instruction.{Instruction}
 use Rattle.opcode.specs.declared.instruction.Instruction.the-variants.{BIT, CALL, DJNZ, IN, INC, JR, LD, LDIR, NOP, RET, SBC, SET}
 use Rattle.opcode.specs.Record.{emptyOf}
 use Rattle.table.specs.declared.Answer.{Answer}
-use Rattle.table.specs.declared.Answer.the-variants.{Short, Long}
+use Rattle.table.specs.declared.Answer.the-variants.{Long}
 use Rattle.table.specs.Decode.{decodeOf}
 use Rattle.marking.specs.declared.Checked.{Checked}
 use Rattle.marking.specs.Rules.{chart}
@@ -26,8 +26,8 @@ use Rattle.flow.specs.Flow.{lookOf}
 pub data Starred : Type 0 where
   -- bytes that decode to a length, an instruction, operands, T-states, and the least and the most that the row takes
   reads : List ℕ → ℕ → Instruction → List Operand → List ℕ → ℕ → ℕ → Starred
-  -- bytes that are refused
-  refuses : List ℕ → Answer → Starred
+  -- bytes that are Short of so many
+  lacks : List ℕ → ℕ → Starred
   -- any five bytes are refused
   five : Answer → Starred
   -- a map at origin 0, with its image, marks and entries, is given an answer
@@ -44,20 +44,24 @@ starred =
     ∷ reads (0xDD ∷ 0x36 ∷ 0x80 ∷ 0x07 ∷ []) 4 LD (Operand.RegI (RegI.IX (negsuc 127)) ∷ Imm8 0x07 ∷ []) (4 ∷ 4 ∷ 3 ∷ 5 ∷ 3 ∷ []) 19 19
     ∷ reads (0xDD ∷ 0x66 ∷ 0x05 ∷ 0x00 ∷ []) 3 LD (Operand.Reg8 Reg8.H ∷ Operand.RegI (RegI.IX (pos 5)) ∷ []) (4 ∷ 4 ∷ 3 ∷ 5 ∷ 3 ∷ []) 19 19
     ∷ reads (0xDD ∷ 0x23 ∷ 0x00 ∷ 0x00 ∷ []) 2 INC (Operand.Reg16 Reg16.IX ∷ []) (6 ∷ 4 ∷ []) 10 10
-    ∷ refuses (0xDD ∷ 0x23 ∷ 0x00 ∷ []) Short
+    ∷ lacks (0xDD ∷ 0x23 ∷ 0x00 ∷ []) 1
     ∷ reads (0xDD ∷ 0x01 ∷ 0x34 ∷ 0x12 ∷ []) 1 NOP (Operand.Reg16 Reg16.BC ∷ Imm16 0x1234 ∷ []) (4 ∷ 3 ∷ 3 ∷ []) 10 10
     ∷ reads (0xED ∷ 0x00 ∷ 0x00 ∷ 0x00 ∷ []) 1 NOP [] (4 ∷ []) 4 4
-    ∷ refuses (0xED ∷ 0x00 ∷ 0x00 ∷ []) Short
+    ∷ lacks (0xED ∷ 0x00 ∷ 0x00 ∷ []) 1
     ∷ reads (0xFD ∷ 0xCB ∷ 0x7F ∷ 0xC6 ∷ []) 4 SET (Imm8 0x00 ∷ Operand.RegI (RegI.IY (pos 127)) ∷ []) (4 ∷ 4 ∷ 3 ∷ 5 ∷ 4 ∷ 3 ∷ []) 23 23
     ∷ reads (0xDD ∷ 0xED ∷ 0x62 ∷ 0x00 ∷ []) 3 SBC (Operand.Reg16 Reg16.IX ∷ Operand.Reg16 Reg16.IX ∷ []) (4 ∷ 4 ∷ 4 ∷ 4 ∷ 3 ∷ []) 19 19
     ∷ five Long
     ∷ checks (0x18 ∷ 0xFE ∷ []) (1 ∷ 2 ∷ []) (0 ∷ 0 ∷ []) Checked.Done
     ∷ []
 
--- what document 02 says of single rows: their row times, those of a NOP with leftovers among them
+-- what document 02 says of single rows: how many bytes are missing; their row times, those of a NOP with leftovers among them
 abbrev pub requested : List Starred
 requested =
-    reads (0x20 ∷ 0x00 ∷ []) 2 JR (Operand.FlagCondition FlagCondition.NZ ∷ RelAddr (pos 2) ∷ []) (4 ∷ 3 ∷ 5 ∷ []) 7 12
+    lacks (0xDD ∷ []) 3
+    ∷ lacks (0xED ∷ []) 1
+    ∷ lacks (0xED ∷ 0x43 ∷ []) 2
+    ∷ lacks (0xDD ∷ 0x23 ∷ 0x00 ∷ []) 1
+    ∷ reads (0x20 ∷ 0x00 ∷ []) 2 JR (Operand.FlagCondition FlagCondition.NZ ∷ RelAddr (pos 2) ∷ []) (4 ∷ 3 ∷ 5 ∷ []) 7 12
     ∷ reads (0xC4 ∷ 0x34 ∷ 0x12 ∷ []) 3 CALL (Operand.FlagCondition FlagCondition.NZ ∷ Imm16 0x1234 ∷ []) (4 ∷ 3 ∷ 4 ∷ 3 ∷ 3 ∷ []) 10 17
     ∷ reads (0xC0 ∷ []) 1 RET (Operand.FlagCondition FlagCondition.NZ ∷ []) (5 ∷ 3 ∷ 3 ∷ []) 5 11
     ∷ reads (0xED ∷ 0xB0 ∷ []) 2 LDIR [] (4 ∷ 4 ∷ 3 ∷ 5 ∷ []) 16 21
@@ -100,7 +104,7 @@ Holds (reads s n i os ts low high) =
             most = record { 0 = high };
           };
     }
-Holds (refuses s a) = decodeOf s ≡ record { answer = a; rec = emptyOf }
+Holds (lacks s k) = decodeOf s ≡ record { answer = Answer.Short (record { 0 = k }); rec = emptyOf }
 Holds (five a) = (b0 b1 b2 b3 b4 : ℕ) → decodeOf (b0 ∷ b1 ∷ b2 ∷ b3 ∷ b4 ∷ []) ≡ record { answer = a; rec = emptyOf }
 Holds (checks s ms es x) = Verdict lookOf (chart s 0 ms) es (numberOf x) (addressOf x)
 

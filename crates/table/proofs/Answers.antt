@@ -2,9 +2,9 @@
 -- Assumes nothing.
 use mathlib.Core.Path.{_≡_, refl, sym, ap, subst, _∙_}
 use mathlib.Core.Logic.{_⊎_, inl, inr, ⊎-elim, _↔_}
-use mathlib.Core.Bool.{Bool, true, false, cond, _||_, true≢false}
+use mathlib.Core.Bool.{Bool, true, false, cond, _&&_, _||_, true≢false}
 use mathlib.Core.List.{List}
-use Prim.Native.Nat.{ℕ, _<_, _≤_}
+use Prim.Native.Nat.{ℕ, _-_, _<_, _≤_}
 use native.Mathlib.Omega.{arith}
 use lib.Dec.{T, eqb, ltb, ltb→lt}
 use lib.ListN.{length, getD}
@@ -17,8 +17,8 @@ use Rattle.table.specs.Departures.{needed, neededBehind}
 use Rattle.table.specs.Plain.{plain}
 use Rattle.table.specs.Cb.{cb}
 use Rattle.table.specs.Ed.{ed}
-use Rattle.table.specs.Decode.{numberOf, isPrefix, pageRow, rowOf, operandBytes, recordOf, four, neededOf, decodeOf}
-use Rattle.table.specs.Consequences.{values, AllBytes, first, second, Undefined, Alone, lengthOf, Cut, TooFew, NothingWhen, ShortWhen, LongWhen, DoneWhen}
+use Rattle.table.specs.Decode.{numberOf, isPrefix, pageRow, rowOf, operandBytes, recordOf, four, edAlone, neededOf, rust, decodeOf}
+use Rattle.table.specs.Consequences.{values, AllBytes, first, second, Undefined, Alone, lengthOf, Cut, TooFew, NothingWhen, ShortWhen, LongWhen, DoneWhen, Below}
 use Rattle.table.proofs.Upto.{agree}
 use Rattle.table.proofs.Pages.{every, at-code}
 use Rattle.table.proofs.Done.{verdict, tells-nothing, tells-long, tells-short, tells-refused}
@@ -58,14 +58,14 @@ unfolding cb
 cb-full = refl
 
 -- two bytes of code: no row of CB or ED is shorter, and a gap needs four
-abbrev two : Row → Bool
+abbrev pub two : Row → Bool
 two x = ltb 1 (needed x)
 
-cb-two : T (every two cb)
+pub cb-two : T (every two cb)
 unfolding cb
 cb-two = tt
 
-ed-two : T (every two ed)
+pub ed-two : T (every two ed)
 unfolding ed
 ed-two = tt
 
@@ -79,6 +79,14 @@ no-row b0 b1 h0 h1 e p = by-first (eqb b0 0xCB) (eqb b0 0xED) refl refl e
     by-first false true q q′ g = (eqb-true b0 0xED q′, g)
     by-first false false q q′ g =
         absurd (true≢false (ap isGap (sym g) ∙ agree (λ (b : ℕ). isGap (getD plain b gap)) (λ (b : ℕ). eqb b 0xCB || (eqb b 0xED || isPrefix b)) true 256 plain-gaps b0 h0 ∙ rw (q, q′, p)))
+
+-- ED with its code yet to come
+pub ed-alone : (s : List ℕ) → edAlone s ≡ true → (length s ≡ 1) × (first s ≡ 0xED)
+ed-alone s = by-test (eqb (length s) 1) refl
+  where
+    by-test : (b : Bool) → eqb (length s) 1 ≡ b → (b && eqb (first s) 0xED) ≡ true → (length s ≡ 1) × (first s ≡ 0xED)
+    by-test true q e = (eqb-true (length s) 1 q, eqb-true (first s) 0xED e)
+    by-test false q e = absurd (true≢false (sym e))
 
 gap-or-cut : (x : Row) (n : ℕ) → n < needed x → (x ≡ gap) ⊎ (n < lengthOf x)
 gap-or-cut gap n h = inl refl
@@ -99,16 +107,25 @@ module _ (s : List ℕ) (bytes : AllBytes s) (some : 1 ≤ length s) (few : leng
           by-count true q = inl (ltb-true 1 (length s) q, g .0, g .1)
           by-count false q = inr (inl (omega (arith, ltb-false 1 (length s) q), inr (g .0)))
 
-      by-prefix : (b : Bool) → isPrefix (first s) ≡ b → length s < neededBehind b (rowOf s) → TooFew s
+      by-prefix : (b : Bool) → isPrefix (first s) ≡ b → length s < neededBehind b (cond (edAlone s) 2 (needed (rowOf s))) → TooFew s
       by-prefix true q h = inl (prefixed (first s) q)
-      by-prefix false q h =
-          ⊎-elim
-          (λ g. inr (undefined-or-alone (no-row (first s) (second s) (bytes 0) (bytes 1) (sym (page-row s q) ∙ g) q)))
-          (λ c. inr (inr (inr (subst (λ (x : Row). length s < lengthOf x) (page-row s q) c))))
-          (gap-or-cut (rowOf s) (length s) h)
+      by-prefix false q h = by-alone (edAlone s) refl h
+        where
+          by-alone : (c : Bool) → edAlone s ≡ c → length s < cond c 2 (needed (rowOf s)) → TooFew s
+          by-alone true a h = let t = ed-alone s a in inr (inr (inl (t .0, inr (t .1))))
+          by-alone false a h =
+              ⊎-elim
+              (λ g. inr (undefined-or-alone (no-row (first s) (second s) (bytes 0) (bytes 1) (sym (page-row s q) ∙ g) q)))
+              (λ c. inr (inr (inr (subst (λ (x : Row). length s < lengthOf x) (page-row s q) c))))
+              (gap-or-cut (rowOf s) (length s) h)
 
-  page-needed : isPrefix (first s) ≡ false → neededOf s ≡ needed (pageRow (first s) (second s))
-  page-needed q = rw q (ap needed (page-row s q))
+  -- too few for the page's row are too few for any that begins so
+  page-needed : isPrefix (first s) ≡ false → length s < needed (pageRow (first s) (second s)) → length s < neededOf s
+  page-needed q h = by-alone (edAlone s) refl
+    where
+      by-alone : (c : Bool) → edAlone s ≡ c → length s < neededOf s
+      by-alone true a = rw (q, a) (omega (arith, ed-alone s a .0))
+      by-alone false a = rw (q, a, page-row s q) h
 
   by-page : Undefined s ⊎ (Alone s ⊎ Cut s) → length s < needed (pageRow (first s) (second s))
   unfolding pageRow
@@ -123,11 +140,14 @@ module _ (s : List ℕ) (bytes : AllBytes s) (some : 1 ≤ length s) (few : leng
       by-prefix : (b : Bool) → isPrefix (first s) ≡ b → TooFew s → length s < neededOf s
       by-prefix true q w = rw q (omega arith)
       by-prefix false q (inl p) = absurd (true≢false (sym (is-prefixed (first s) p) ∙ q))
-      by-prefix false q (inr w) = rw (page-needed q) (by-page w)
+      by-prefix false q (inr w) = page-needed q (by-page w)
 
 module _ (s : List ℕ) where
   abbrev found : OpCode
   found = recordOf (rowOf s) (operandBytes s) (four s)
+
+  abbrev lacks : ℕ
+  lacks = neededOf s - length s
 
   abbrev none : Bool
   none = eqb (length s) 0
@@ -138,46 +158,51 @@ module _ (s : List ℕ) where
   abbrev under : Bool
   under = ltb (length s) (neededOf s)
 
-  by-tests : decodeOf s .answer ≡ verdict none over under found .answer
+  by-tests : decodeOf s .answer ≡ verdict none over under lacks found .answer
   unfolding decodeOf
   by-tests = refl
 
   -- a refused decode returns the empty record
   pub refused-empty : (decodeOf s .answer ≡ Answer.Done → ⊥) → decodeOf s .rec ≡ emptyOf
   unfolding decodeOf
-  refused-empty n = tells-refused found none over under n
+  refused-empty n = tells-refused lacks found none over under n
 
   -- 1, Nothing: no bytes
   pub nothing-exactly : (decodeOf s .answer ≡ Answer.Nothing) ↔ NothingWhen s
   nothing-exactly = (
-    λ e. eqb-true (length s) 0 (tells-nothing found none over under (sym by-tests ∙ e)),
+    λ e. eqb-true (length s) 0 (tells-nothing lacks found none over under (sym by-tests ∙ e)),
     λ h. by-tests ∙ rw (eq-eqb (length s) 0 h),
   )
 
   -- 3, Long: over four bytes
   pub long-exactly : (decodeOf s .answer ≡ Answer.Long) ↔ LongWhen s
   long-exactly = (
-    λ e. ltb-true 4 (length s) (tells-long found none over under (sym by-tests ∙ e)),
+    λ e. ltb-true 4 (length s) (tells-long lacks found none over under (sym by-tests ∙ e)),
     λ h. by-tests ∙ rw (ne-eqb (length s) 0 (λ e. omega arith), lt-ltb 4 (length s) h),
   )
 
-  -- 2, Short: one to three bytes that decide no row
-  pub short-exactly : AllBytes s → (decodeOf s .answer ≡ Answer.Short) ↔ ShortWhen s
-  short-exactly bytes = (to, from)
+  -- 2, Short: one to three bytes, fewer than are needed
+  pub short-below : (numberOf (decodeOf s .answer) ≡ 2) ↔ Below rust s
+  short-below = (to, from)
     where
-      to : decodeOf s .answer ≡ Answer.Short → ShortWhen s
+      to : numberOf (decodeOf s .answer) ≡ 2 → Below rust s
       to e =
-          let f = tells-short found none over under (sym by-tests ∙ e) in
+          let f = tells-short lacks found none over under (ap numberOf (sym by-tests) ∙ e) in
           let n = eqb-false (length s) 0 (f .0) in
           let less = ltb-true (length s) (neededOf s) (f .2) in
-          let some : 1 ≤ length s = omega arith in
-          let few : length s ≤ 3 = omega (arith, needed-at-most s) in
-          (some, few, too-few s bytes some few less)
+          (omega arith, omega (arith, needed-at-most s), less)
 
-      from : ShortWhen s → decodeOf s .answer ≡ Answer.Short
-      from (some, few, why) =
-          by-tests
-          ∙ rw (ne-eqb (length s) 0 (λ e. omega arith), le-ltb 4 (length s) (omega arith), lt-ltb (length s) (neededOf s) (is-few s bytes some few why))
+      from : Below rust s → numberOf (decodeOf s .answer) ≡ 2
+      from (some, few, less) =
+          ap numberOf by-tests
+          ∙ rw (ne-eqb (length s) 0 (λ e. omega arith), le-ltb 4 (length s) (omega arith), lt-ltb (length s) (neededOf s) less)
+
+  -- which are those that decide no row
+  pub short-exactly : AllBytes s → (numberOf (decodeOf s .answer) ≡ 2) ↔ ShortWhen s
+  short-exactly bytes = (
+    λ e. let (some, few, less) = short-below .0 e in (some, few, too-few s bytes some few less),
+    λ (some, few, why). short-below .1 (some, few, is-few s bytes some few why),
+  )
 
   -- 0, Done: otherwise
   pub done-exactly : AllBytes s → (decodeOf s .answer ≡ Answer.Done) ↔ DoneWhen s
@@ -186,14 +211,14 @@ module _ (s : List ℕ) where
       to : decodeOf s .answer ≡ Answer.Done → DoneWhen s
       to e = (
         λ w. omega (arith, ap numberOf (sym (nothing-exactly .1 w) ∙ e)),
-        λ w. omega (arith, ap numberOf (sym (short-exactly bytes .1 w) ∙ e)),
+        λ w. omega (arith, short-exactly bytes .1 w, ap numberOf e),
         λ w. omega (arith, ap numberOf (sym (long-exactly .1 w) ∙ e)),
       )
 
       by-answer : (a : Answer) → decodeOf s .answer ≡ a → DoneWhen s → decodeOf s .answer ≡ Answer.Done
       by-answer Answer.Done e w = e
       by-answer Answer.Nothing e w = absurd (w .0 (nothing-exactly .0 e))
-      by-answer Answer.Short e w = absurd (w .1 (short-exactly bytes .0 e))
+      by-answer (Answer.Short k) e w = absurd (w .1 (short-exactly bytes .0 (ap numberOf e)))
       by-answer Answer.Long e w = absurd (w .2 (long-exactly .0 e))
 
       from : DoneWhen s → decodeOf s .answer ≡ Answer.Done

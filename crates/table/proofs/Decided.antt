@@ -1,7 +1,7 @@
 -- What one to three bytes decide, added bytes up to four do not change but for data.
 -- Assumes nothing.
 use mathlib.Core.Path.{_≡_, refl, sym, ap, subst, _∙_}
-use mathlib.Core.Bool.{Bool, true, false, _&&_, _||_}
+use mathlib.Core.Bool.{Bool, true, false, cond, _&&_, _||_}
 use mathlib.Core.List.{List, _++_}
 use Prim.Native.Nat.{ℕ, _+_, _<_, _≤_}
 use native.Mathlib.Omega.{arith}
@@ -16,11 +16,12 @@ use Rattle.table.specs.Departures.{needed, neededBehind}
 use Rattle.table.specs.Plain.{plain}
 use Rattle.table.specs.Cb.{cb}
 use Rattle.table.specs.Ed.{ed}
-use Rattle.table.specs.Decode.{isPrefix, pageRow, rowOf, operandBytes, recordOf, four, neededOf, done, decodeOf}
+use Rattle.table.specs.Decode.{isPrefix, pageRow, rowOf, operandBytes, recordOf, four, edAlone, neededOf, done, rust, decodeOf}
 use Rattle.table.specs.Consequences.{first, second, withData, Stays}
 use Rattle.table.proofs.Pages.{both-left, both-right, every, at-code}
 use Rattle.table.proofs.Done.{Decides, decides, decided}
-use Rattle.table.proofs.Answers.{page-row}
+use Rattle.table.proofs.Sizes.{whole}
+use Rattle.table.proofs.Answers.{page-row, ed-alone}
 
 -- how many of the bytes behind the code a kind reads
 abbrev reach : Kind → ℕ
@@ -93,13 +94,14 @@ module _ (s t : List ℕ) (c : ℕ) where
   code-there (row i x y z n u) m four-most w fits = let g = leb→le c n (both-left (leb c n) _ w) in omega arith
 
 module _ (s t : List ℕ) (e : decodeOf s .answer ≡ Answer.Done) (few : length s ≤ 3) (most : length (s ++ t) ≤ 4) where
-  w : Decides s
-  w = decides s e
+  w : Decides rust s
+  unfolding decodeOf
+  w = decides rust s e
 
   no-prefix : isPrefix (first s) ≡ false
   no-prefix = by-test (isPrefix (first s)) refl (w .enough)
     where
-      by-test : (b : Bool) → isPrefix (first s) ≡ b → neededBehind b (rowOf s) ≤ length s → isPrefix (first s) ≡ false
+      by-test : (b : Bool) → isPrefix (first s) ≡ b → neededBehind b (cond (edAlone s) 2 (needed (rowOf s))) ≤ length s → isPrefix (first s) ≡ false
       by-test true q fits = absurd (omega arith)
       by-test false q fits = q
 
@@ -110,18 +112,33 @@ module _ (s t : List ℕ) (e : decodeOf s .answer ≡ Answer.Done) (few : length
   no-prefix-either = ap isPrefix same-first ∙ no-prefix
 
   page-enough : needed (pageRow (first s) (second s)) ≤ length s
-  page-enough = subst (λ (x : Row). needed x ≤ length s) (page-row s no-prefix) (subst (λ (b : Bool). neededBehind b (rowOf s) ≤ length s) no-prefix (w .enough))
+  page-enough = subst (λ (x : Row). needed x ≤ length s) (page-row s no-prefix) (whole s (w .enough))
+
+  longer : length s ≤ length (s ++ t)
+  longer = omega (arith, length-append s t)
+
+  -- ED alone decides nothing
+  not-alone : edAlone (s ++ t) ≡ false
+  not-alone = by-test (edAlone (s ++ t)) refl
+    where
+      by-test : (b : Bool) → edAlone (s ++ t) ≡ b → edAlone (s ++ t) ≡ false
+      by-test true a =
+          let one = ed-alone (s ++ t) a in
+          let size : length s ≡ 1 = omega (arith, w .some, longer, one .0) in
+          let both : edAlone s ≡ true = rw (size, sym same-first ∙ one .1) in
+          absurd (omega (arith, size, rw (no-prefix, both) at (w .enough)))
+      by-test false a = a
 
   -- the same row over the same bytes behind its code
   settled :
       (c : ℕ) (x : Row) → T (inside c x) → rowOf s ≡ x → rowOf (s ++ t) ≡ x → operandBytes s ≡ drop c s → operandBytes (s ++ t) ≡ drop c (s ++ t)
       → Stays s t
+  unfolding decodeOf
   settled c x inner r r′ o o′ =
       let enough : needed x ≤ length s = subst (λ (y : Row). needed y ≤ length s) (sym (page-row s no-prefix) ∙ r) page-enough in
-      let longer : length s ≤ length (s ++ t) = omega (arith, length-append s t) in
-      let all : neededOf (s ++ t) ≤ length (s ++ t) = rw (no-prefix-either, r′) (le-trans enough longer) in
+      let all : neededOf (s ++ t) ≤ length (s ++ t) = rw (no-prefix-either, not-alone, r′) (le-trans enough longer) in
       let before : decodeOf s .rec ≡ recordOf x (drop c s) (four s) = ap (λ (u : Decoded). u .rec) (w .made) ∙ rw (r, o) in
-      decided (s ++ t) (omega (arith, w .some)) most all
+      decided rust (s ++ t) (omega (arith, w .some, longer)) most all
       ∙ rw (r′, o′, before) (ap done (row-same s t c x inner enough (four (s ++ t)) (four s)))
 
   -- a code of two bytes: both are there, so the second is the same too

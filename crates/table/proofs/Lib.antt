@@ -10,3 +10,4 @@ pub mod Sizes
 pub mod Answers
 pub mod Recursive
 pub mod Decided
+pub mod Missing

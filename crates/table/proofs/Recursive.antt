@@ -3,7 +3,7 @@
 use mathlib.Core.Path.{_≡_, refl, sym, ap, subst, _∙_}
 use mathlib.Core.Bool.{Bool, true, false, cond, _||_, true≢false}
 use mathlib.Core.List.{List, [], _∷_, map}
-use Prim.Native.Nat.{ℕ, zero, suc, _<_, _≤_}
+use Prim.Native.Nat.{ℕ, zero, suc, _-_, _<_, _≤_}
 use native.Mathlib.Omega.{arith}
 use lib.Dec.{eqb, ltb}
 use lib.ListN.{length, drop, getD, List·getD-map}
@@ -19,7 +19,7 @@ use Rattle.table.specs.Departures.{needed, ed-behind}
 use Rattle.table.specs.Plain.{plain}
 use Rattle.table.specs.Ed.{ed}
 use Rattle.table.specs.Prefix.{prefixRow, behindRow}
-use Rattle.table.specs.Decode.{isPrefix, pageRow, rowOf, operandBytes, recordOf, four, neededOf, refused, done, decodeOf}
+use Rattle.table.specs.Decode.{isPrefix, pageRow, rowOf, operandBytes, recordOf, four, edAlone, neededOf, refused, short, done, decodeOf}
 use Rattle.table.specs.Consequences.{values, AllBytes, first}
 use Rattle.table.specs.Steps.{untimed, behind, named, step, reading, filled}
 use Rattle.table.proofs.Upto.{agree}
@@ -32,18 +32,18 @@ few : (r q : Decoded) (s d : List ℕ) → length s < 4 → step r s d ≡ step 
 unfolding step
 few r q s d fits = rw (lt-ltb (length s) 4 fits)
 
-few-reading : (k : ℕ) (s d : List ℕ) → length s < 4 → reading k s d ≡ step (refused Answer.Short) s d
+few-reading : (k : ℕ) (s d : List ℕ) → length s < 4 → reading k s d ≡ step (refused Answer.Nothing) s d
 unfolding reading
 few-reading zero s d fits = refl
-few-reading (suc k) s d fits = few (reading k (drop 1 s) d) (refused Answer.Short) s d fits
+few-reading (suc k) s d fits = few (reading k (drop 1 s) d) (refused Answer.Nothing) s d fits
 
 -- behind the prefix: the ED page line by line, and every other byte code by code
 module _ (b2 b3 : ℕ) (d : List ℕ) where
   abbrev rest : ℕ → Decoded
-  rest b1 = step (refused Answer.Short) (b1 ∷ b2 ∷ b3 ∷ []) d
+  rest b1 = step (refused Answer.Nothing) (b1 ∷ b2 ∷ b3 ∷ []) d
 
   abbrev restEd : Row → Decoded
-  restEd x = cond (ltb 3 (needed x)) (refused Answer.Short) (done (untimed (recordOf x (b3 ∷ []) d)))
+  restEd x = cond (ltb 3 (needed x)) (short (needed x - 3)) (done (untimed (recordOf x (b3 ∷ []) d)))
 
   ed-lines : (i : Index) → map (λ (x : Row). behind (restEd x) i 0xED b2 b3 d) ed ≡ map (λ (x : Row). untimed (recordOf (prefixRow i (ed-behind x)) (b2 ∷ b3 ∷ []) d)) ed
   unfolding ed mayInsert mayRemove insertOf removeOf inserted removed
@@ -52,7 +52,7 @@ module _ (b2 b3 : ℕ) (d : List ℕ) where
   plain-lines :
       (i : Index) → values (λ (b1 : ℕ). cond (eqb b1 0xED) emptyOf (behind (rest b1) i b1 b2 b3 d)) 0 256
       ≡ values (λ (b1 : ℕ). cond (eqb b1 0xED) emptyOf (untimed (recordOf (behindRow i b1 b2 b3) (b2 ∷ b3 ∷ []) d))) 0 256
-  unfolding plain step pageRow behindRow mayInsert mayRemove insertOf removeOf inserted removed
+  unfolding plain step pageRow rowOf behindRow mayInsert mayRemove insertOf removeOf inserted removed
   plain-lines i = refl
 
   ed-agrees : (i : Index) → behind (restEd (getD ed b2 gap)) i 0xED b2 b3 d ≡ untimed (recordOf (prefixRow i (ed-behind (getD ed b2 gap))) (b2 ∷ b3 ∷ []) d)
@@ -63,7 +63,7 @@ module _ (b2 b3 : ℕ) (d : List ℕ) where
       ∙ List·getD-map (λ (x : Row). untimed (recordOf (prefixRow i (ed-behind x)) (b2 ∷ b3 ∷ []) d)) ed b2 gap
 
   behind-agrees : (i : Index) (b1 : ℕ) → b1 < 256 → behind (rest b1) i b1 b2 b3 d ≡ untimed (recordOf (behindRow i b1 b2 b3) (b2 ∷ b3 ∷ []) d)
-  unfolding step pageRow behindRow
+  unfolding step pageRow rowOf behindRow
   behind-agrees i b1 fits = by-ed (eqb b1 0xED) refl
     where
       by-ed : (b : Bool) → eqb b1 0xED ≡ b → behind (rest b1) i b1 b2 b3 d ≡ untimed (recordOf (behindRow i b1 b2 b3) (b2 ∷ b3 ∷ []) d)
@@ -76,7 +76,7 @@ module _ (b2 b3 : ℕ) (d : List ℕ) where
 
 -- the table's rule with the data d, before the row times are filled
 abbrev tabled : List ℕ → List ℕ → Decoded
-tabled s d = verdict (eqb (length s) 0) (ltb 4 (length s)) (ltb (length s) (neededOf s)) (untimed (recordOf (rowOf s) (operandBytes s) d))
+tabled s d = verdict (eqb (length s) 0) (ltb 4 (length s)) (ltb (length s) (neededOf s)) (neededOf s - length s) (untimed (recordOf (rowOf s) (operandBytes s) d))
 
 -- no prefix in front
 page-agrees : (r : Decoded) (s d : List ℕ) → length s ≤ 4 → isPrefix (first s) ≡ false → step r s d ≡ tabled s d
@@ -113,18 +113,18 @@ filled-row : (x : Row) (s d : List ℕ) → retimed (untimed (recordOf x s d)) �
 filled-row gap s d = refl
 filled-row (row i x y z n t) s d = refl
 
-filled-verdict : (a b c : Bool) (x : Row) (s d : List ℕ) → filled (verdict a b c (untimed (recordOf x s d))) ≡ verdict a b c (recordOf x s d)
-filled-verdict true b c x s d = refl
-filled-verdict false true c x s d = refl
-filled-verdict false false true x s d = refl
-filled-verdict false false false x s d = ap done (filled-row x s d)
+filled-verdict : (a b c : Bool) (k : ℕ) (x : Row) (s d : List ℕ) → filled (verdict a b c k (untimed (recordOf x s d))) ≡ verdict a b c k (recordOf x s d)
+filled-verdict true b c k x s d = refl
+filled-verdict false true c k x s d = refl
+filled-verdict false false true k x s d = refl
+filled-verdict false false false k x s d = ap done (filled-row x s d)
 
 -- on up to four bytes the steps give what the table says, however many are allowed
 pub steps-agree : (k : ℕ) (s : List ℕ) → AllBytes s → length s ≤ 4 → filled (reading (suc k) s (four s)) ≡ decodeOf s
 unfolding reading decodeOf
 steps-agree k s bytes most =
     ap filled (by-prefix (isPrefix (first s)) refl)
-    ∙ filled-verdict (eqb (length s) 0) (ltb 4 (length s)) (ltb (length s) (neededOf s)) (rowOf s) (operandBytes s) (four s)
+    ∙ filled-verdict (eqb (length s) 0) (ltb 4 (length s)) (ltb (length s) (neededOf s)) (neededOf s - length s) (rowOf s) (operandBytes s) (four s)
   where
     by-prefix : (b : Bool) → isPrefix (first s) ≡ b → step (reading k (drop 1 s) (four s)) s (four s) ≡ tabled s (four s)
     by-prefix true q = prefix-agrees k s (four s) bytes most q

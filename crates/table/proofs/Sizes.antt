@@ -1,11 +1,12 @@
 -- The sizes of a decoded record: its length, its machine cycles, its T-state places and its row times.
 -- Assumes nothing.
 use mathlib.Core.Path.{_≡_, refl, sym, ap, subst, _∙_}
-use mathlib.Core.Bool.{Bool, true, false, _&&_}
+use mathlib.Core.Bool.{Bool, true, false, cond, _&&_, true≢false}
 use mathlib.Core.List.{List, [], _∷_}
 use Prim.Native.Nat.{ℕ, zero, suc, _<_, _≤_}
 use native.Mathlib.Omega.{arith}
-use lib.Dec.{T, ltb, leb, leb→le, ltb→lt}
+use lib.Dec.{T, eqb, ltb, leb, leb→le, ltb→lt}
+use borrow.Author.Tests.{eqb-true}
 use native.Mathlib.Nat.{le-of-suc-le-suc, le-trans}
 use lib.ListN.{length, getD, List·getD-eq-default}
 use Rattle.opcode.specs.declared.counts.TStates.{TStates}
@@ -20,7 +21,7 @@ use Rattle.table.specs.Departures.{oneFigure, needed, neededBehind}
 use Rattle.table.specs.Plain.{plain}
 use Rattle.table.specs.Cb.{cb}
 use Rattle.table.specs.Ed.{ed}
-use Rattle.table.specs.Decode.{isPrefix, rowOf, operandBytes, made, recordOf, four, neededOf, decodeOf}
+use Rattle.table.specs.Decode.{isPrefix, rowOf, operandBytes, made, recordOf, four, edAlone, neededOf, rust, decodeOf}
 use Rattle.table.specs.Consequences.{Keeps}
 use Rattle.table.proofs.Pages.{both-left, both-right}
 use Rattle.table.proofs.Rows.{Everywhere, row-holds}
@@ -131,25 +132,39 @@ row-length : (x : Row) (s d : List ℕ) → recordOf x s d .length .0 ≤ needed
 row-length gap s d = omega arith
 row-length (row ins x y z n t) s d = omega arith
 
-no-longer : (b : Bool) (x : Row) → Sized x → (s d : List ℕ) → recordOf x s d .length .0 ≤ neededBehind b x
-no-longer true x w s d = omega (arith, row-length x s d, row-needs x w)
-no-longer false x w s d = row-length x s d
-
-needed-most : (b : Bool) (x : Row) → Sized x → neededBehind b x ≤ 4
-needed-most true x w = omega (arith, row-needs x w)
-needed-most false x w = row-needs x w
+rust-most : (b c : Bool) (n : ℕ) → n ≤ 4 → neededBehind b (cond c 2 n) ≤ 4
+rust-most true c n h = omega arith
+rust-most false true n h = omega arith
+rust-most false false n h = h
 
 pub needed-at-most : (s : List ℕ) → neededOf s ≤ 4
-needed-at-most s = needed-most (isPrefix (getD s 0 0)) (rowOf s) (row-sized s)
+needed-at-most s = rust-most (isPrefix (getD s 0 0)) (edAlone s) (needed (rowOf s)) (row-needs (rowOf s) (row-sized s))
+
+-- the bytes that decide a row hold it whole; ED alone decides none
+rust-whole : (b c : Bool) (l n : ℕ) → n ≤ 4 → (c ≡ true → l ≡ 1) → neededBehind b (cond c 2 n) ≤ l → n ≤ l
+rust-whole true c l n h one fits = omega arith
+rust-whole false true l n h one fits = absurd (omega (arith, one refl))
+rust-whole false false l n h one fits = fits
+
+ed-one : (s : List ℕ) → edAlone s ≡ true → length s ≡ 1
+ed-one s = by-test (eqb (length s) 1) refl
+  where
+    by-test : (b : Bool) → eqb (length s) 1 ≡ b → (b && eqb (getD s 0 0) 0xED) ≡ true → length s ≡ 1
+    by-test true q e = eqb-true (length s) 1 q
+    by-test false q e = absurd (true≢false (sym e))
+
+pub whole : (s : List ℕ) → neededOf s ≤ length s → needed (rowOf s) ≤ length s
+whole s fits = rust-whole (isPrefix (getD s 0 0)) (edAlone s) (length s) (needed (rowOf s)) (row-needs (rowOf s) (row-sized s)) (ed-one s) fits
 
 pub sizes : (s : List ℕ) → decodeOf s .answer ≡ Answer.Done → Keeps (length s) (decodeOf s .rec)
+unfolding decodeOf
 sizes s e =
-    let w = decides s e in
+    let w = decides rust s e in
     let x = rowOf s in
     subst (λ (o : OpCode). Keeps (length s) o) (sym (ap (λ (u : Decoded). u .rec) (w .made)))
-    (record-keeps x (row-sized s) (operandBytes s) (four s) (length s)
-    (le-trans (no-longer (isPrefix (getD s 0 0)) x (row-sized s) (operandBytes s) (four s)) (w .enough)))
+    (record-keeps x (row-sized s) (operandBytes s) (four s) (length s) (le-trans (row-length x (operandBytes s) (four s)) (whole s (w .enough))))
 
 -- four bytes are never refused
 pub four-decide : (s : List ℕ) → length s ≡ 4 → decodeOf s .answer ≡ Answer.Done
-four-decide s e = ap (λ (u : Decoded). u .answer) (decided s (omega arith) (omega arith) (le-trans (needed-at-most s) (omega arith)))
+unfolding decodeOf
+four-decide s e = ap (λ (u : Decoded). u .answer) (decided rust s (omega arith) (omega arith) (le-trans (needed-at-most s) (omega arith)))

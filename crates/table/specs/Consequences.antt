@@ -10,11 +10,12 @@ use lib.ListN.{length, getD}
 use Rattle.opcode.specs.declared.record.OpCode.{OpCode}
 use Rattle.opcode.specs.Record.{unfilled}
 use Rattle.opcode.specs.Times.{timeOf}
+use Rattle.table.specs.declared.Answer.{Answer}
 use Rattle.table.specs.Row.{Cycles, always, conditional, repeating, Row, row, gap, is-at-hl}
 use Rattle.table.specs.Departures.{oneFigure, afterFirst}
 use Rattle.table.specs.Ed.{ed}
 use Rattle.table.specs.Prefix.{is-hl}
-use Rattle.table.specs.Decode.{pageRow, made, four, done, decodeOf}
+use Rattle.table.specs.Decode.{pageRow, made, four, done, Reading, decodeBy, decodeOf}
 
 -- f's values at the n numbers from i
 abbrev pub values : {A : Type 0} → (ℕ → A) → ℕ → ℕ → List A
@@ -63,6 +64,10 @@ NothingWhen s = length s ≡ 0
 abbrev pub ShortWhen : List ℕ → Type 0
 ShortWhen s = (1 ≤ length s) × (length s ≤ 3) × TooFew s
 
+-- the same of any reading: one to three bytes, fewer than are needed
+abbrev pub Below : Reading → List ℕ → Type 0
+Below r s = (1 ≤ length s) × (length s ≤ 3) × (length s < r .needed s)
+
 -- 3, Long: over four bytes
 abbrev pub LongWhen : List ℕ → Type 0
 LongWhen s = 4 < length s
@@ -105,6 +110,17 @@ withData o d =
 -- bytes t added to s change nothing of what s decodes to but the data
 abbrev pub Stays : List ℕ → List ℕ → Type 0
 Stays s t = decodeOf (s ++ t) ≡ done (withData (decodeOf s .rec) (four (s ++ t)))
+
+-- k bytes behind s for which the decode succeeds
+pub record Completion (r : Reading) (s : List ℕ) (k : ℕ) : Type 0 where
+  pub bytes : List ℕ
+  pub are-bytes : AllBytes bytes
+  pub count : length bytes ≡ k
+  pub succeeds : decodeBy r (s ++ bytes) .answer ≡ Answer.Done
+
+-- the fewest bytes that, for some choice of them, would make the decode succeed
+abbrev pub Fewest : Reading → List ℕ → ℕ → Type 0
+Fewest r s k = Completion r s k × ((j : ℕ) → Completion r s j → k ≤ j)
 
 -- displacements: 0 to 127, then -128 to -1; `negsuc n` is -(n + 1)
 abbrev pub displacement : ℕ → ℤ

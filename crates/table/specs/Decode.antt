@@ -1,6 +1,6 @@
 -- From bytes to answer and record. Definitions only.
-use Prim.Native.Nat.{ℕ}
-use mathlib.Core.Bool.{Bool, cond, _||_}
+use Prim.Native.Nat.{ℕ, _-_}
+use mathlib.Core.Bool.{Bool, cond, _&&_, _||_}
 use mathlib.Core.List.{List, [], _∷_}
 use lib.Dec.{eqb, ltb}
 use lib.ListN.{length, drop, getD}
@@ -11,7 +11,7 @@ use Rattle.opcode.specs.Times.{leastOf, mostOf}
 use Rattle.table.specs.declared.Answer.{Answer}
 use Rattle.table.specs.declared.Decoded.{Decoded}
 use Rattle.table.specs.Row.{ix, iy, Kind, none, Cycles, Row, row, gap, t1, read, states}
-use Rattle.table.specs.Departures.{oneFigure, neededBehind}
+use Rattle.table.specs.Departures.{oneFigure, needed, neededBehind}
 use Rattle.table.specs.Plain.{plain}
 use Rattle.table.specs.Cb.{cb}
 use Rattle.table.specs.Ed.{ed}
@@ -21,8 +21,15 @@ use Rattle.table.specs.Prefix.{behindRow}
 abbrev pub numberOf : Answer → ℕ
 numberOf Answer.Done = 0
 numberOf Answer.Nothing = 1
-numberOf Answer.Short = 2
+numberOf (Answer.Short k) = 2
 numberOf Answer.Long = 3
+
+-- the fewest missing bytes that an answer carries: zero but for Short
+abbrev pub missingOf : Answer → ℕ
+missingOf Answer.Done = 0
+missingOf Answer.Nothing = 0
+missingOf (Answer.Short k) = k .0
+missingOf Answer.Long = 0
 
 -- the first byte is DD or FD
 abbrev pub isPrefix : ℕ → Bool
@@ -71,20 +78,40 @@ recordOf (row i x y z n t) s d = made i x y z n t s d
 abbrev pub four : List ℕ → List ℕ
 four s = getD s 0 0 ∷ getD s 1 0 ∷ getD s 2 0 ∷ getD s 3 0 ∷ []
 
--- how many bytes decide the row of s
+-- ED with its code yet to come
+abbrev pub edAlone : List ℕ → Bool
+edAlone s = eqb (length s) 1 && eqb (getD s 0 0) 0xED
+
+-- how many bytes decide a row that begins with s, at least: ED alone may become one of two
 abbrev pub neededOf : List ℕ → ℕ
-neededOf s = neededBehind (isPrefix (getD s 0 0)) (rowOf s)
+neededOf s = neededBehind (isPrefix (getD s 0 0)) (cond (edAlone s) 2 (needed (rowOf s)))
 
 -- a refusal returns the empty record
 abbrev pub refused : Answer → Decoded
 refused a = record { answer = a; rec = emptyOf }
 
+-- k bytes are missing
+abbrev pub short : ℕ → Decoded
+short k = refused (Answer.Short (record { 0 = k }))
+
 abbrev pub done : OpCode → Decoded
 done r = record { answer = Answer.Done; rec = r }
 
-unfoldable pub decodeOf : List ℕ → Decoded
-decodeOf s =
+-- how bytes are read: the row of some bytes, and how many decide a row that begins with them, at least
+pub record Reading : Type 0 where
+  pub row : List ℕ → Row
+  pub needed : List ℕ → ℕ
+
+abbrev pub decodeBy : Reading → List ℕ → Decoded
+decodeBy r s =
     cond (eqb (length s) 0) (refused Answer.Nothing)
     (cond (ltb 4 (length s)) (refused Answer.Long)
-    (cond (ltb (length s) (neededOf s)) (refused Answer.Short)
-    (done (recordOf (rowOf s) (operandBytes s) (four s)))))
+    (cond (ltb (length s) (r .needed s)) (short (r .needed s - length s))
+    (done (recordOf (r .row s) (operandBytes s) (four s)))))
+
+-- as the Rust reads them
+abbrev pub rust : Reading
+rust = record { row = rowOf; needed = neededOf }
+
+unfoldable pub decodeOf : List ℕ → Decoded
+decodeOf s = decodeBy rust s

@@ -1,6 +1,6 @@
 -- The prefix rule on records, as document 01 words it and the original does it: the bytes behind DD or FD are decoded first, and the record is then changed.
 -- The table's own rule changes the row instead; proofs/Recursive.antt shows that the two agree, so that nobody has to believe this file. Definitions only.
-use Prim.Native.Nat.{ℕ, zero, suc, _+_}
+use Prim.Native.Nat.{ℕ, zero, suc, _+_, _-_}
 use mathlib.Core.Bool.{Bool, true, false, cond, _||_}
 use mathlib.Core.List.{List, [], _∷_}
 use lib.Dec.{eqb, ltb}
@@ -19,10 +19,9 @@ use Rattle.table.specs.declared.Answer.{Answer}
 use Rattle.table.specs.declared.Decoded.{Decoded}
 use Rattle.table.specs.Row.{Index, ix, iy, gap, indexOf, states}
 use Rattle.table.specs.Families.{high, low}
-use Rattle.table.specs.Departures.{needed}
 use Rattle.table.specs.Cb.{cb}
 use Rattle.table.specs.Prefix.{pair, bitRow}
-use Rattle.table.specs.Decode.{numberOf, isPrefix, pageRow, operandBytes, recordOf, refused, done}
+use Rattle.table.specs.Decode.{numberOf, isPrefix, pageRow, operandBytes, recordOf, neededOf, refused, short, done}
 use Rattle.table.specs.Consequences.{first, second, withData}
 
 abbrev pub isHL : Reg16 → Bool
@@ -202,12 +201,12 @@ unfoldable pub step : Decoded → List ℕ → List ℕ → Decoded
 step r s d =
     cond (eqb (length s) 0) (refused Answer.Nothing)
     (cond (isPrefix (first s))
-    (cond (ltb (length s) 4) (refused Answer.Short) (done (behind r (named (first s)) (second s) (getD s 2 0) (getD s 3 0) d)))
-    (cond (ltb (length s) (needed (pageRow (first s) (second s)))) (refused Answer.Short) (done (untimed (recordOf (pageRow (first s) (second s)) (operandBytes s) d)))))
+    (cond (ltb (length s) 4) (short (neededOf s - length s)) (done (behind r (named (first s)) (second s) (getD s 2 0) (getD s 3 0) d)))
+    (cond (ltb (length s) (neededOf s)) (short (neededOf s - length s)) (done (untimed (recordOf (pageRow (first s) (second s)) (operandBytes s) d)))))
 
 -- decoding by steps, each handing the rest to the next; k bounds how many
 unfoldable pub reading : ℕ → List ℕ → List ℕ → Decoded
-reading zero s d = step (refused Answer.Short) s d
+reading zero s d = step (refused Answer.Nothing) s d
 reading (suc k) s d = step (reading k (drop 1 s) d) s d
 
 -- the row times are filled at the end

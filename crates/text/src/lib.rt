@@ -20,7 +20,7 @@ fn write(ins: &[u8], full: bool, out: &mut [u8]) -> Written
     match answer {
         Answer::Done => give_chosen(rec, full, out),
         Answer::Nothing => Written::Nothing,
-        Answer::Short => Written::Short,
+        Answer::Short(missing) => Written::Short(missing),
         Answer::Long => Written::Long,
     }
 }

@@ -19,7 +19,7 @@ use Rattle.table.specs.Plain.{plain}
 use Rattle.table.specs.Cb.{cb}
 use Rattle.table.specs.Ed.{ed}
 use Rattle.table.specs.Prefix.{behindRow}
-use Rattle.table.specs.Decode.{isPrefix, rowOf, operandBytes, made, recordOf, four, decodeOf}
+use Rattle.table.specs.Decode.{isPrefix, rowOf, operandBytes, made, recordOf, four, rust, decodeOf}
 use Rattle.table.specs.Consequences.{values, AllBytes}
 use Rattle.table.proofs.Upto.{agree}
 use Rattle.table.proofs.Pages.{chosen}
@@ -121,9 +121,10 @@ behind-bytes s bytes = chosen AllBytes (isPrefix (getD s 0 0) || (eqb (getD s 0 
 
 module _ (s : List ℕ) (bytes : AllBytes s) (done : decodeOf s .answer ≡ Answer.Done) where
   pub full-most : length (fullText (decodeOf s .rec)) ≤ textMost
+  unfolding decodeOf
   full-most =
       let x = rowOf s in
-      rw (ap (λ (d : Decoded). d .rec) (decides s done .made))
+      rw (ap (λ (d : Decoded). d .rec) (decides rust s done .made))
       (le-trans (row-most x (operandBytes s) (four s) (behind-bytes s bytes) refl) (leb→le (length (fullText (recordOf x lowest zeros))) textMost (row-holds fits all-fit s)))
 
   pub plain-most : length (plainText (decodeOf s .rec)) ≤ textMost
@@ -134,7 +135,7 @@ module _ (s : List ℕ) (bytes : AllBytes s) (done : decodeOf s .answer ≡ Answ
 count-most : (a : Answer) (t out : List ℕ) → (a ≡ Answer.Done → length t ≤ textMost) → countOf (answered a t out) ≤ textMost
 count-most Answer.Done t out most = chosen (λ (w : Written). countOf w ≤ textMost) (leb (length t) (length out)) _ _ (most refl) (omega arith)
 count-most Answer.Nothing t out most = omega arith
-count-most Answer.Short t out most = omega arith
+count-most (Answer.Short k) t out most = omega arith
 count-most Answer.Long t out most = omega arith
 
 module _ (s : List ℕ) (bytes : AllBytes s) (out : List ℕ) where

@@ -1,5 +1,6 @@
-//! The rows of an image, as document 01's 'Listing' says, in the original's own words.
+//! The rows of an image, as document 01's 'Listing' says, in the original's own words; a Short one with P3's number.
 
+use super::missing::missing;
 use super::LARGEST_INPUT;
 use crate::answer::Refusal;
 use crate::arguments::{Place, ADDRESSES};
@@ -12,12 +13,13 @@ pub struct Row {
     pub passed: usize,
 }
 
-/// The row at a place. Where the original gives no record of the bytes, the first of them is shown and passed.
+/// The row at a place. Where the original gives no record of the bytes, the first of them is shown and passed, and how many are
+/// missing is told.
 pub fn row(place: &Place) -> Result<Row, Refusal> {
     let window = window_at(place)?;
     let (text, passed) = match disas(window) {
         Some(opcode) => (format!("{opcode:?}"), opcode.length as usize),
-        None => (format!("{:02X} \t\t?", window[0]), 1),
+        None => (format!("{:02X} \t\t?{}", window[0], missing(window)), 1),
     };
     let line = format!("{:04X} {text}\n", place.address).into_bytes();
     Ok(Row { line, passed })
@@ -86,7 +88,7 @@ mod tests {
         let lines: Vec<Vec<u8>> = rows.iter().map(|row| row.line.clone()).collect();
         let expected = b"0000 21 34 12 \t\tLD\tHL, 1234 [4, 3, 3, 0, 0, 0]\n\
             0003 3E 05 \t\tLD\tA, 05 [4, 3, 0, 0, 0, 0]\n\
-            0005 DD \t\t?\n\
+            0005 DD \t\t?2\n\
             0006 23 \t\tINC\tHL [6, 0, 0, 0, 0, 0]\n";
         assert_eq!(lines.concat(), expected);
         let passed: Vec<usize> = rows.iter().map(|row| row.passed).collect();
@@ -95,7 +97,7 @@ mod tests {
 
     #[test]
     fn example_elsewhere() {
-        let short = done("ABD2 DD \t\t?\n", 1);
+        let short = done("ABD2 DD \t\t?2\n", 1);
         assert_eq!(row(&EXAMPLE, 0xABCD, 0xABD2), short);
         let inside = done("ABCE 34 \t\tINC\t(HL) [4, 4, 3, 0, 0, 0]\n", 1);
         assert_eq!(row(&EXAMPLE, 0xABCD, 0xABCE), inside);
@@ -126,7 +128,7 @@ mod tests {
     fn full_image() {
         let mut image = vec![0x00; ADDRESSES];
         image[ADDRESSES - 1] = 0xDD;
-        assert_eq!(row(&image, 0, 0xFFFF), done("FFFF DD \t\t?\n", 1));
+        assert_eq!(row(&image, 0, 0xFFFF), done("FFFF DD \t\t?3\n", 1));
         let before = done("FFFE 00 \t\tNOP\t [4, 0, 0, 0, 0, 0]\n", 1);
         assert_eq!(row(&image, 0, 0xFFFE), before);
         assert_eq!(row(&image, 1, 0xFFFF), Err(Refusal::ImageSize));

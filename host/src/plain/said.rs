@@ -3,6 +3,7 @@
 use super::decoded;
 use super::listing::row;
 use super::marking::judged;
+use super::missing::missing;
 use super::record::record;
 use crate::answer::{Refusal, Refused};
 use crate::asked::Asked;
@@ -16,10 +17,23 @@ pub struct Written {
     pub passed: usize,
 }
 
-/// What is written, or the refusal that comes before the room is looked at. A map check writes no bytes.
-pub type Said = Result<Written, Refused>;
+/// What is written, or the refusal that comes before the room is looked at, a map check writing no bytes; and the fewest missing
+/// bytes where the function says them.
+pub struct Said {
+    pub written: Result<Written, Refused>,
+    pub missing: usize,
+}
 
 pub fn said(asked: &Asked) -> Said {
+    let missing = match asked {
+        Asked::Bytes(_, ins) => missing(ins),
+        Asked::Row(_) | Asked::Map(_) => 0,
+    };
+    let written = written(asked);
+    Said { written, missing }
+}
+
+fn written(asked: &Asked) -> Result<Written, Refused> {
     let (bytes, passed) = match asked {
         Asked::Bytes(function, ins) => (said_of_bytes(*function, ins)?, 0),
         Asked::Row(place) => {

@@ -21,7 +21,7 @@ abbrev add-all-below : ℕ → In 2 add-all-kinds.ps
 add-all-below t = and 2 add-all-kinds.ps (falls 2 add-all-kinds.ps _<_ μ-add-all t) add-all.Pre
 
 abbrev Inv-loop : add-all-lts.InvT-loop
-Inv-loop ins₀ fixed free out₀ at next₀ byte₀ ins out next byte = next + 25 ≤ 6400
+Inv-loop ins₀ fixed free out₀ at next₀ byte₀ ins out next byte = next + 26 ≤ 6656
 
 abbrev μ-loop : add-all-lts.MeasureT-loop
 μ-loop ins₀ fixed free out₀ at next₀ byte₀ ins out next byte = 255 - byte

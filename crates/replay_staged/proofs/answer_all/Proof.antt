@@ -5,7 +5,7 @@ use Rattle.replay_staged.proofs.answer_all.Statement.{statement}
 use Rattle.replay_staged.proofs.answer_all.Tie as tie
 
 abbrev Inv-loop : tie.InvT-loop
-Inv-loop out₀ step₀ turns₀ out step turns = step .at + 25 ≤ 6400
+Inv-loop out₀ step₀ turns₀ out step turns = step .at + 26 ≤ 6656
 
 abbrev μ-loop : tie.MeasureT-loop
 μ-loop out₀ step₀ turns₀ out step turns = turns

@@ -48,14 +48,17 @@ const PAIRS: [Pair; 4] = [
 ];
 
 fn our_record(ins: &Input) -> [u8; RECORD_SIZE] {
-    let mut out = [0; RECORD_SIZE];
-    z80_record(ins, &mut out);
+    let (mut out, mut missing) = ([0; RECORD_SIZE], 0);
+    z80_record(ins, &mut out, &mut missing);
     out
 }
 
-fn our_text(ins: &Input, make: fn(&[u8], &mut [u8], &mut u32) -> u8) -> ([u8; TEXT_MAX], u32) {
-    let (mut out, mut count) = ([0; TEXT_MAX], 0);
-    make(ins, &mut out, &mut count);
+/// `z80_text` or `z80_full_text`.
+type MakeText = fn(&[u8], &mut [u8], &mut u32, &mut u32) -> u8;
+
+fn our_text(ins: &Input, make: MakeText) -> ([u8; TEXT_MAX], u32) {
+    let (mut out, mut count, mut missing) = ([0; TEXT_MAX], 0, 0);
+    make(ins, &mut out, &mut count, &mut missing);
     (out, count)
 }
 

@@ -48,6 +48,7 @@ impl Archive {
         Ok(Left {
             number: u32::from_le_bytes(self.program.read()?),
             count: u32::from_le_bytes(self.program.read()?),
+            missing: u32::from_le_bytes(self.program.read()?),
             lent: self.program.read()?,
         })
     }

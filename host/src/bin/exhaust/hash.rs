@@ -21,7 +21,7 @@ mod tests {
     use std::collections::HashSet;
 
     /// What two calls leave.
-    const SIZE: usize = 2 * (8 + LENT);
+    const SIZE: usize = 2 * (12 + LENT);
 
     /// No two bytes are the same, so that every change of places is another sequence.
     fn bytes() -> [u8; SIZE] {
@@ -33,7 +33,8 @@ mod tests {
         Left {
             number: number(0),
             count: number(4),
-            lent: std::array::from_fn(|k| bytes[8 + k]),
+            missing: number(8),
+            lent: std::array::from_fn(|k| bytes[12 + k]),
         }
     }
 

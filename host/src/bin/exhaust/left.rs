@@ -11,7 +11,7 @@ use host::plain::said::write;
 use std::fmt;
 
 /// The bytes that are looked at: the room lent, and some behind it.
-pub const LENT: usize = 56;
+pub const LENT: usize = 60;
 
 /// What stands in every byte before a call; only what is answered may alter it.
 const FILL: u8 = 0xA5;
@@ -19,17 +19,18 @@ const FILL: u8 = 0xA5;
 /// A number that was not written.
 const NONE: u32 = u32::from_le_bytes([FILL; 4]);
 
-/// The number answered, the count, and the buffer with what stands behind the room.
+/// The number answered, the count, the missing bytes, and the buffer with what stands behind the room.
 #[derive(Debug, PartialEq, Eq, Clone, Copy)]
 pub struct Left {
     pub number: u32,
     pub count: u32,
+    pub missing: u32,
     pub lent: [u8; LENT],
 }
 
 impl Left {
-    /// What the original has a call leave, on the four bytes of a number, the highest first. Those are never refused, so a refusal
-    /// is one for room, which writes nothing.
+    /// What the original has a call leave, on the four bytes of a number, the highest first. Those are never refused, so none are
+    /// missing, and a refusal is one for room, which writes nothing.
     pub fn by_original(function: Function, input: u32) -> Left {
         let decoded = decoded(&bytes(input));
         match decoded.and_then(|opcode| Left::written(function, opcode)) {
@@ -59,17 +60,26 @@ impl Left {
         Left {
             number,
             count,
+            missing: 0,
             lent,
         }
     }
 
     /// All of it, as it lies in memory on the archive's side, low byte first.
     pub fn words(&self) -> impl Iterator<Item = u64> + '_ {
-        let numbers = self.number as u64 | (self.count as u64) << 32;
-        let (lent, _) = self.lent.as_chunks();
-        let lent = lent.iter().map(|word| u64::from_le_bytes(*word));
-        [numbers].into_iter().chain(lent)
+        let (front, behind) = self.lent.split_at(4);
+        let front = u32::from_le_bytes(front.try_into().expect("four bytes"));
+        let numbers = word(self.number, self.count);
+        let missing = word(self.missing, front);
+        let (behind, _) = behind.as_chunks();
+        let behind = behind.iter().map(|bytes| u64::from_le_bytes(*bytes));
+        [numbers, missing].into_iter().chain(behind)
     }
+}
+
+/// Two numbers as one, the first of them low.
+fn word(low: u32, high: u32) -> u64 {
+    low as u64 | (high as u64) << 32
 }
 
 /// What is lent: room for a record, or for the longest text.
@@ -80,10 +90,15 @@ fn room(function: Function) -> usize {
     }
 }
 
-/// The number, and the buffer up to where the fill begins: as bytes, or as text behind its count.
+/// The number, the missing bytes where there are any, and the buffer up to where the fill begins: as bytes, or as text behind its
+/// count.
 impl fmt::Display for Left {
     fn fmt(&self, f: &mut fmt::Formatter) -> fmt::Result {
-        let (number, count) = (self.number, self.count);
+        let count = self.count;
+        let number = match self.missing {
+            0 => format!("{}", self.number),
+            missing => format!("{}, missing {missing}", self.number),
+        };
         let last = self.lent.iter().rposition(|byte| *byte != FILL);
         let lent = &self.lent[..last.map_or(0, |last| last + 1)];
         match count {
@@ -117,6 +132,7 @@ mod tests {
             let expected = Left {
                 number: 0,
                 count,
+                missing: 0,
                 lent: lent(written),
             };
             let left = Left::by_original(function, 0x8A18_8056);
@@ -139,10 +155,11 @@ mod tests {
         let left = Left {
             number: 0x0302_0100,
             count: 0x0706_0504,
-            lent: std::array::from_fn(|place| place as u8 + 8),
+            missing: 0x0B0A_0908,
+            lent: std::array::from_fn(|place| place as u8 + 12),
         };
         let bytes = left.words().flat_map(u64::to_le_bytes);
-        assert!(bytes.eq(0..64));
+        assert!(bytes.eq(0..72));
     }
 
     #[test]
@@ -154,5 +171,8 @@ mod tests {
         assert_eq!(record.to_string(), format!("0, [{bytes}]"));
         record.lent[25] = 0;
         assert_eq!(record.to_string(), format!("0, [{bytes}, A5, 00]"));
+        record.missing = 3;
+        let shown = format!("0, missing 3, [{bytes}, A5, 00]");
+        assert_eq!(record.to_string(), shown);
     }
 }

@@ -26,13 +26,15 @@ front s out last n e = rw (take-all (length s) s (omega arith), n) at e
 
 returns : tie.Need-returns
 returns c =
-    let b = c .before .before in
-    rw (← told (b .before), ← b .number .ensures, eq-eqb (b .number .result) 0 (omega arith), lt-ltb (length (now (b .before .before .before .before .args .out))) 24 (omega arith)) (refl, refl)
+    let m = c .before .before in
+    let b = m .before in
+    rw (← told (b .before), ← b .number .ensures, eq-eqb (b .number .result) 0 (omega arith), lt-ltb (length (now (b .before .before .before .before .args .out))) 24 (omega arith)) (refl, (rw (m .missing .ensures) refl, refl))
 
 returns-2 : tie.Need-returns-2
 returns-2 c =
-    let b = c .before .before in
-    rw (← told (b .before), ← b .number .ensures, ne-eqb (b .number .result) 0 (λ e. omega arith), lt-ltb (length (now (b .before .before .before .before .args .out))) 24 (omega arith)) (refl, refl)
+    let m = c .before .before in
+    let b = m .before in
+    rw (← told (b .before), ← b .number .ensures, ne-eqb (b .number .result) 0 (λ e. omega arith), lt-ltb (length (now (b .before .before .before .before .args .out))) 24 (omega arith)) (refl, (rw (m .missing .ensures) refl, refl))
 
 -- the number of an answer, where there is room
 plain : (n : ℕ) → n ≡ cond (eqb n 0) 0 n
@@ -44,11 +46,12 @@ plain n = by-test (eqb n 0) refl
 
 returns-3 : tie.Need-returns-3
 returns-3 c =
-    let b = c .before .before .before .before .before .before .before in
+    let m = c .before .before .before .before .before .before .before in
+    let b = m .before in
     let s = c .before .before .before .before .before .fields in
     let n : length (s .result) ≡ 24 = search needs in
     rw (← told (b .before), ← b .number .ensures, le-ltb (length (now (b .before .before .before .before .args .out))) 24 (omega arith))
-    (plain (b .number .result), rw (s .ensures) at (front (s .result) _ _ n (c .before .before .copy .ensures .1)))
+    (plain (b .number .result), (rw (m .missing .ensures) refl, rw (s .ensures) at (front (s .result) _ _ n (c .before .before .copy .ensures .1))))
 
 pub z80-record-spec : {M : Type 1} → statement M
 z80-record-spec =
@@ -56,6 +59,8 @@ z80-record-spec =
     (tie.spec
     (λ c κs. search needs)
     (λ c κs. search needs)
+    (λ c κs. search needs)
+    (λ c. search needs)
     returns
     returns-2
     (λ c κs. search needs)
