@@ -4,8 +4,8 @@
 #include "z80.h"
 #include <unistd.h>
 
-// The functions by the numbers of src/function.rs, and what is wanted of their calls.
-enum { RECORD, TEXT, FULL_TEXT };
+// The record by its number of src/function.rs, in which a text is one more than its choice; and what is wanted of the calls.
+enum { RECORD };
 enum { HASH, ALL };
 
 enum { INPUT = 4, LENT = 60, WORDS = 9 };
@@ -53,10 +53,10 @@ static uint64_t step(uint64_t state, uint64_t word) {
 static void call(uint32_t function, uint32_t input, union left *left) {
     uint8_t ins[INPUT] = {input >> 16, input >> 8, input, (input >> 24) + (input >> 16) + (input >> 8) + input};
     for (size_t i = 0; i < WORDS; i++) left->words[i] = FILL;
-    switch (function) {
-    case RECORD: left->number = z80_record(ins, INPUT, left->lent, Z80_RECORD_SIZE, &left->missing); return;
-    case TEXT: left->number = z80_text(ins, INPUT, left->lent, Z80_TEXT_MAX, &left->count, &left->missing); return;
-    case FULL_TEXT: left->number = z80_full_text(ins, INPUT, left->lent, Z80_TEXT_MAX, &left->count, &left->missing); return;
+    if (function == RECORD) {
+        left->number = z80_record(ins, INPUT, left->lent, Z80_RECORD_SIZE, &left->missing);
+    } else {
+        left->number = z80_text(function - 1, ins, INPUT, left->lent, Z80_TEXT_MAX, &left->count, &left->missing);
     }
 }
 

@@ -5,15 +5,14 @@
 #include "z80.h"
 #include <unistd.h>
 
-// The functions by the numbers of src/function.rs and src/calls.rs.
-enum { RECORD, TEXT, FULL_TEXT, ROW, MAP };
+// The functions by the numbers of src/function.rs and src/calls.rs: from TEXT on one for each choice of a text.
+enum { RECORD, TEXT, ROW = TEXT + 256, MAP };
 enum { NUMBER = 4, NUMBERS = 4, LOOKED_AT = 64, OUTCOME = 2 + NUMBERS * NUMBER + LOOKED_AT };
 enum { LONGEST = 65537, LONGEST_PART = 2 * LONGEST + 1, BEHIND = 4, PIPE = 65536 };
 
 // What a call is about: the bytes of a row, an image and where it is looked at, or the map that was read last.
 struct about {
-    uint8_t function;
-    size_t len;
+    size_t function, len;
     uint16_t origin, address;
 };
 
@@ -114,10 +113,9 @@ static uint8_t call(const struct about *a, uint8_t *out, size_t room, struct num
     if (!room) out = 0;
     switch (a->function) {
     case RECORD: return z80_record(ins, a->len, out, room, &n->missing);
-    case TEXT: return z80_text(ins, a->len, out, room, &n->count, &n->missing);
-    case FULL_TEXT: return z80_full_text(ins, a->len, out, room, &n->count, &n->missing);
     case ROW: return z80_row(ins, a->len, a->origin, a->address, out, room, &n->count, &n->passed);
-    default: return check(a->origin, &n->address);
+    case MAP: return check(a->origin, &n->address);
+    default: return z80_text(a->function - TEXT, ins, a->len, out, room, &n->count, &n->missing);
     }
 }
 
@@ -146,7 +144,7 @@ static int answer_rooms(const struct about *a, size_t k) {
 }
 
 // A function of a row's bytes: the fixed ones, then every choice of the free ones.
-static int answer_inputs(uint8_t function) {
+static int answer_inputs(size_t function) {
     size_t free, fixed;
     if (!get_number(&free, 1) || !get_number(&fixed, 2) || !get_bytes_and_rooms(fixed) || free > 2) return 0;
     struct about a = {function, fixed + free, 0, 0};
@@ -177,18 +175,17 @@ static int answer_map(void) {
     return get_rooms() && answer_rooms(&a, 0);
 }
 
-static int answer_next(uint8_t function) {
+static int answer_next(size_t function) {
     switch (function) {
-    case RECORD: case TEXT: case FULL_TEXT: return answer_inputs(function);
     case ROW: return answer_places();
     case MAP: return answer_map();
-    default: return 0;
+    default: return function < ROW && answer_inputs(function);
     }
 }
 
 int main(void) {
-    uint8_t function;
-    while (get(&function, 1)) {
+    size_t function;
+    while (get_number(&function, 2)) {
         if (!answer_next(function)) return 1;
     }
     return flush() ? 0 : 1;

@@ -12,7 +12,8 @@
 extern "C" {
 #endif
 
-// What a function answers: the numbers of docs/01-scope.md. From Z80_IMAGE_SIZE on they are of maps; z80_row has it too.
+// What a function answers: the numbers of docs/01-scope.md and docs/02-change-requests.md. From Z80_IMAGE_SIZE to Z80_BAD_NEXT
+// they are of maps; z80_row has the first of these too.
 enum {
     Z80_DONE = 0,
     Z80_NOTHING = 1,          // no bytes; for z80_row an address outside the image
@@ -27,12 +28,17 @@ enum {
     Z80_UNFINISHED = 10,      // a start whose bytes are no whole row
     Z80_CLIPPED = 11,         // a later byte of a start's row not marked as inside
     Z80_STRAY = 12,           // a byte marked as inside that no start's row covers
-    Z80_BAD_NEXT = 13         // a start that leads to a place outside the image or to no start
+    Z80_BAD_NEXT = 13,        // a start that leads to a place outside the image or to no start
+    Z80_BAD_CHOICE = 26       // a choice of a text that is over Z80_FULL
 };
 
 // The bytes of a record, the last two of which, 22 and 23, are the least and the most T-states that the row takes; and the most
 // bytes of a text and of a line. A room of so many is always enough.
 enum { Z80_RECORD_SIZE = 24, Z80_TEXT_MAX = 52, Z80_LINE_MAX = 58 };
+
+// The parts of a text, added up to a choice: the row's bytes, its instruction with the operands, its T-states; and two choices,
+// the plain text, which is without the bytes, and the full one.
+enum { Z80_BYTES = 1, Z80_INSTRUCTION = 2, Z80_TIMES = 4, Z80_PLAIN = 6, Z80_FULL = 7 };
 
 // The marks of a map, one for each byte of the image.
 enum { Z80_DATA = 0, Z80_START = 1, Z80_INSIDE = 2 };
@@ -45,13 +51,13 @@ enum { Z80_DATA = 0, Z80_START = 1, Z80_INSIDE = 2 };
 // it Z80_DONE; with every other answer 0. Another choice may need more: behind ED it is 1, but with 43 there it is 2 again.
 uint8_t z80_record(const uint8_t *ins, size_t ins_len, uint8_t *out, size_t out_len, uint32_t *missing);
 
-// The text of the row that `ins` is, such as "LD\tHL, 1234 [4, 3, 3, 0, 0, 0]", to the front of `out`, and its length to `count`.
-// No zero byte ends it. Answers by the same numbers; where that is not Z80_DONE, `count` is 0 and `out` as it was. `missing` is
-// as with z80_record.
-uint8_t z80_text(const uint8_t *ins, size_t ins_len, uint8_t *out, size_t out_len, uint32_t *count, uint32_t *missing);
-
-// The same with the row's bytes in front: "21 34 12 \t\tLD\tHL, 1234 [4, 3, 3, 0, 0, 0]".
-uint8_t z80_full_text(const uint8_t *ins, size_t ins_len, uint8_t *out, size_t out_len, uint32_t *count, uint32_t *missing);
+// The parts of the text of the row that `ins` is, those that `choice` adds up, to the front of `out`, and their length to `count`.
+// All three are "21 34 12 \t\tLD\tHL, 1234 [4, 3, 3, 0, 0, 0]", of which "21 34 12 \t\t" are the bytes, "LD\tHL, 1234" is the
+// instruction and " [4, 3, 3, 0, 0, 0]" the T-states. No zero byte ends them. For choice 0 the text is empty and needs no room.
+// Answers Z80_BAD_CHOICE before all else, then by the same numbers as z80_record; where that is not Z80_DONE, `count` is 0 and
+// `out` as it was. `missing` is as with z80_record.
+uint8_t z80_text(uint8_t choice, const uint8_t *ins, size_t ins_len, uint8_t *out, size_t out_len, uint32_t *count,
+                 uint32_t *missing);
 
 // The line of the row at `address`, in an image whose first byte stands at `origin`: the address, a space, the full text and LF
 // to the front of `out`, its length to `count`, and to `passed` how many bytes further the next row begins. Where the image ends

@@ -40,30 +40,39 @@ static int missing_is_right(void) {
     static const struct { uint8_t ins[3], len, missing; } rows[] = {
         {{0xDD}, 1, 3}, {{0xED}, 1, 1}, {{0xED, 0x43}, 2, 2}, {{0xDD, 0x23, 0x00}, 3, 1}};
     for (size_t row = 0; row < sizeof rows / sizeof rows[0]; row++) {
-        uint32_t count, of_record, of_text, of_full_text;
+        uint32_t count, of_record, of_text;
         if (z80_record(rows[row].ins, rows[row].len, NULL, 0, &of_record) != Z80_SHORT) return 0;
-        if (z80_text(rows[row].ins, rows[row].len, NULL, 0, &count, &of_text) != Z80_SHORT) return 0;
-        if (z80_full_text(rows[row].ins, rows[row].len, NULL, 0, &count, &of_full_text) != Z80_SHORT) return 0;
-        uint32_t missing = rows[row].missing;
-        if (of_record != missing || of_text != missing || of_full_text != missing) return 0;
+        if (z80_text(Z80_FULL, rows[row].ins, rows[row].len, NULL, 0, &count, &of_text) != Z80_SHORT) return 0;
+        if (of_record != rows[row].missing || of_text != rows[row].missing) return 0;
     }
     return 1;
 }
 
+// The parts alone, and what they add up to; no part at all needs no room.
 static int texts_are_right(void) {
+    static const struct { uint8_t choice; const char *text; } texts[] = {
+        {Z80_BYTES, "21 34 12 \t\t"},
+        {Z80_INSTRUCTION, "LD\tHL, 1234"},
+        {Z80_TIMES, " [4, 3, 3, 0, 0, 0]"},
+        {Z80_BYTES + Z80_INSTRUCTION, "21 34 12 \t\tLD\tHL, 1234"},
+        {Z80_BYTES + Z80_TIMES, "21 34 12 \t\t [4, 3, 3, 0, 0, 0]"},
+        {Z80_PLAIN, "LD\tHL, 1234 [4, 3, 3, 0, 0, 0]"},
+        {Z80_FULL, "21 34 12 \t\tLD\tHL, 1234 [4, 3, 3, 0, 0, 0]"}};
     uint32_t count, missing;
-    if (z80_text(image, 3, out, Z80_TEXT_MAX, &count, &missing) != Z80_DONE || missing != 0) return 0;
-    if (!is_written("LD\tHL, 1234 [4, 3, 3, 0, 0, 0]", count)) return 0;
-    if (z80_full_text(image, 3, out, Z80_TEXT_MAX, &count, &missing) != Z80_DONE || missing != 0) return 0;
-    return is_written("21 34 12 \t\tLD\tHL, 1234 [4, 3, 3, 0, 0, 0]", count);
+    for (size_t row = 0; row < sizeof texts / sizeof texts[0]; row++) {
+        if (z80_text(texts[row].choice, image, 3, out, Z80_TEXT_MAX, &count, &missing) != Z80_DONE || missing != 0) return 0;
+        if (!is_written(texts[row].text, count)) return 0;
+    }
+    return z80_text(0, image, 3, NULL, 0, &count, &missing) == Z80_DONE && count == 0 && missing == 0;
 }
 
 static int refusals_are_right(void) {
     uint32_t count, missing;
-    if (z80_text(NULL, 0, out, sizeof out, &count, &missing) != Z80_NOTHING || missing != 0) return 0;
-    if (z80_text(image, 2, out, sizeof out, &count, &missing) != Z80_SHORT || missing != 1) return 0;
-    if (z80_text(image, 5, out, sizeof out, &count, &missing) != Z80_LONG || missing != 0) return 0;
-    return z80_text(image, 3, NULL, 0, &count, &missing) == Z80_NO_ROOM && count == 0 && missing == 0;
+    if (z80_text(Z80_FULL + 1, image, 2, out, sizeof out, &count, &missing) != Z80_BAD_CHOICE || missing != 0) return 0;
+    if (z80_text(Z80_PLAIN, NULL, 0, out, sizeof out, &count, &missing) != Z80_NOTHING || missing != 0) return 0;
+    if (z80_text(Z80_PLAIN, image, 2, out, sizeof out, &count, &missing) != Z80_SHORT || missing != 1) return 0;
+    if (z80_text(Z80_PLAIN, image, 5, out, sizeof out, &count, &missing) != Z80_LONG || missing != 0) return 0;
+    return z80_text(Z80_PLAIN, image, 3, NULL, 0, &count, &missing) == Z80_NO_ROOM && count == 0 && missing == 0;
 }
 
 // The rows of the image from address ABCD on: there are four.

@@ -1,4 +1,4 @@
-//! What a function answers: document 01's numbers, their names, and the most bytes that it writes.
+//! What a function answers: the numbers of documents 01 and 02, their names, and the most bytes that it writes.
 
 use Refusal::*;
 
@@ -6,13 +6,13 @@ use Refusal::*;
 /// cycles, the least and the most that the row takes.
 pub const RECORD_SIZE: usize = 24;
 
-/// The longest text of a decoded record.
+/// The longest text of a decoded record, which is one with all parts.
 pub const TEXT_MAX: usize = 52;
 
 /// The longest line: address, space, full text, LF.
 pub const LINE_MAX: usize = 4 + 1 + TEXT_MAX + 1;
 
-/// The refusals, as document 01 numbers them; 0 is Done.
+/// The refusals, as documents 01 and 02 number them; 0 is Done.
 #[derive(Debug, PartialEq, Eq, Clone, Copy)]
 pub enum Refusal {
     Nothing = 1,
@@ -28,10 +28,11 @@ pub enum Refusal {
     Clipped = 11,
     Stray = 12,
     BadNext = 13,
+    BadChoice = 26,
 }
 
 /// All refusals, in the order of their numbers.
-pub const REFUSALS: [Refusal; 13] = [
+pub const REFUSALS: [Refusal; 14] = [
     Nothing,
     Short,
     Long,
@@ -45,16 +46,17 @@ pub const REFUSALS: [Refusal; 13] = [
     Clipped,
     Stray,
     BadNext,
+    BadChoice,
 ];
 
 /// The name of an answer by its number.
 pub fn name(number: usize) -> Option<String> {
-    match number {
-        0 => Some("Done".into()),
-        _ => REFUSALS
-            .get(number - 1)
-            .map(|refusal| format!("{refusal:?}")),
+    if number == 0 {
+        return Some("Done".into());
     }
+    let mut refusals = REFUSALS.into_iter();
+    let refusal = refusals.find(|refusal| *refusal as usize == number)?;
+    Some(format!("{refusal:?}"))
 }
 
 /// Why a map is refused, and the address that is told with it.
@@ -78,9 +80,8 @@ mod tests {
 
     #[test]
     fn refusals_by_number() {
-        for (k, refusal) in REFUSALS.into_iter().enumerate() {
-            assert_eq!(refusal as usize, k + 1);
-        }
+        let numbers = REFUSALS.map(|refusal| refusal as usize);
+        assert!(numbers.into_iter().eq((1..=13).chain([26])));
     }
 
     #[test]
@@ -90,10 +91,13 @@ mod tests {
             (1, "Nothing"),
             (7, "EntryCount"),
             (13, "BadNext"),
+            (26, "BadChoice"),
         ];
         for (number, word) in names {
             assert_eq!(name(number).unwrap(), word);
         }
-        assert_eq!(name(14), None);
+        for number in [14, 25, 27] {
+            assert_eq!(name(number), None);
+        }
     }
 }

@@ -1,5 +1,5 @@
-//! What a function is asked about: a place of an image, or a map of it. The exported functions take these types, and so does the
-//! plain reading that they are held to.
+//! What a function is asked about: the parts of a text, a place of an image, or a map of it. The exported functions take these,
+//! and so does the plain reading that they are held to.
 
 /// The bytes of a whole address space, past whose end no image may reach.
 pub const ADDRESSES: usize = 65_536;
@@ -12,6 +12,15 @@ pub const PAIR: usize = 2;
 pub const DATA: u8 = 0;
 pub const START: u8 = 1;
 pub const INSIDE: u8 = 2;
+
+/// The parts of a text, which a choice adds up: the row's bytes, its instruction with the operands, its T-states.
+pub const BYTES: u8 = 1;
+pub const INSTRUCTION: u8 = 2;
+pub const TIMES: u8 = 4;
+
+/// The choices of the plain text, which is without the bytes, and of the full one, which has all parts and is the largest choice.
+pub const PLAIN: u8 = INSTRUCTION + TIMES;
+pub const FULL: u8 = BYTES + PLAIN;
 
 /// An image that begins at an origin, and the address where a row is asked for.
 #[derive(Debug, Clone, Copy)]

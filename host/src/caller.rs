@@ -9,7 +9,7 @@ pub use linked::Caller;
 mod linked {
     use crate::arguments::Map;
     use crate::asked::Asked;
-    use crate::exported::{z80_full_text, z80_map_check, z80_record, z80_row, z80_text};
+    use crate::exported::{z80_map_check, z80_record, z80_row, z80_text};
     use crate::function::Function;
     use crate::laid::Laid;
     use crate::outcome::{Call, Lent, Outcome};
@@ -45,8 +45,9 @@ mod linked {
             let mut map_altered = false;
             let number = match call.asked {
                 Asked::Bytes(Function::Record, ins) => z80_record(ins, out, missing),
-                Asked::Bytes(Function::Text, ins) => z80_text(ins, out, count, missing),
-                Asked::Bytes(Function::FullText, ins) => z80_full_text(ins, out, count, missing),
+                Asked::Bytes(Function::Text(choice), ins) => {
+                    z80_text(*choice, ins, out, count, missing)
+                }
                 Asked::Row(place) => z80_row(place, out, count, passed),
                 Asked::Map(map) => checked(map, address, &mut map_altered),
             };

@@ -24,9 +24,9 @@ pub struct Inputs {
     pub fixed: Vec<u8>,
 }
 
-/// The numbers that the bridge knows `z80_row` and `z80_map_check` by.
-const ROW: u8 = 3;
-const MAP: u8 = 4;
+/// The numbers that the bridge knows `z80_row` and `z80_map_check` by, above those of a text with any choice.
+const ROW: u16 = 257;
+const MAP: u16 = 258;
 
 /// So many zeros stand behind an image, the same on every machine: where they are read, a row is no longer Short.
 const BEHIND: usize = 4;
@@ -78,9 +78,11 @@ impl Inputs {
 
     /// Function, free bytes, the fixed bytes' count, those; numbers here and below low byte first.
     fn request(&self) -> Vec<u8> {
-        let head = [self.function as u8, self.free];
-        let count = self.fixed.len() as u16;
-        [&head, &count.to_le_bytes()[..], &self.fixed].concat()
+        let mut request = self.function.number().to_le_bytes().to_vec();
+        request.push(self.free);
+        request.extend((self.fixed.len() as u16).to_le_bytes());
+        request.extend(&self.fixed);
+        request
     }
 }
 
@@ -111,7 +113,7 @@ impl Places {
     /// Function, origin, first address, how many, the image's count, and the image.
     fn request(&self) -> Vec<u8> {
         let image = self.image();
-        let mut request = vec![ROW];
+        let mut request = ROW.to_le_bytes().to_vec();
         request.extend(self.origin.to_le_bytes());
         request.extend(self.first.to_le_bytes());
         request.extend(self.count.to_le_bytes());
@@ -123,7 +125,7 @@ impl Places {
 
 /// Function, origin, and each part of the map behind its count.
 fn map_request(drawn: &Drawn) -> Vec<u8> {
-    let mut request = vec![MAP];
+    let mut request = MAP.to_le_bytes().to_vec();
     request.extend(drawn.origin.to_le_bytes());
     for part in [&drawn.image, &drawn.marks, &drawn.entries] {
         request.extend((part.len() as u32).to_le_bytes());

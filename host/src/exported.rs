@@ -14,14 +14,7 @@ mod sys {
             missing: *mut u32,
         ) -> u8;
         pub fn z80_text(
-            ins: *const u8,
-            ins_len: usize,
-            out: *mut u8,
-            out_len: usize,
-            count: *mut u32,
-            missing: *mut u32,
-        ) -> u8;
-        pub fn z80_full_text(
+            choice: u8,
             ins: *const u8,
             ins_len: usize,
             out: *mut u8,
@@ -61,16 +54,11 @@ pub fn z80_record(ins: &[u8], out: &mut [u8], missing: &mut u32) -> u8 {
     unsafe { sys::z80_record(ins.as_ptr(), ins.len(), to, room, missing) }
 }
 
-/// The text of `ins` at the front of `out`, its length in `count`, `missing` as above, and the answer number.
-pub fn z80_text(ins: &[u8], out: &mut [u8], count: &mut u32, missing: &mut u32) -> u8 {
+/// The chosen parts of the text of `ins`, `arguments::BYTES` and the like added up, at the front of `out`, their length in
+/// `count`, `missing` as above, and the answer number.
+pub fn z80_text(choice: u8, ins: &[u8], out: &mut [u8], count: &mut u32, missing: &mut u32) -> u8 {
     let (to, room) = (out.as_mut_ptr(), out.len());
-    unsafe { sys::z80_text(ins.as_ptr(), ins.len(), to, room, count, missing) }
-}
-
-/// The same for the full text.
-pub fn z80_full_text(ins: &[u8], out: &mut [u8], count: &mut u32, missing: &mut u32) -> u8 {
-    let (to, room) = (out.as_mut_ptr(), out.len());
-    unsafe { sys::z80_full_text(ins.as_ptr(), ins.len(), to, room, count, missing) }
+    unsafe { sys::z80_text(choice, ins.as_ptr(), ins.len(), to, room, count, missing) }
 }
 
 /// The line at a place at the front of `out`, its length in `count`, the bytes passed in `passed`, and the answer number.

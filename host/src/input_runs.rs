@@ -29,10 +29,13 @@ pub fn up_to_two(function: Function) -> Vec<Inputs> {
     (0..=2).flat_map(of_count).collect()
 }
 
-pub fn random(function: Function) -> Vec<Inputs> {
+pub fn random_rows() -> Vec<Vec<u8>> {
     let mut mixed = Mixed::new(0x5A80_2026);
-    let rows = (0..RANDOM_INPUTS).map(|_| mixed.bytes(4)).collect();
-    behind(function, 0, rows)
+    (0..RANDOM_INPUTS).map(|_| mixed.bytes(4)).collect()
+}
+
+pub fn random(function: Function) -> Vec<Inputs> {
+    behind(function, 0, random_rows())
 }
 
 /// Every first byte with five bytes and more: Long, which the original is not asked for because it panics.

@@ -104,8 +104,9 @@ mod tests {
     use super::*;
     use crate::arguments::Map;
     use crate::arguments::Place;
+    use crate::function::{FULL_TEXT, PLAIN_TEXT};
     use crate::plain::said::said;
-    use Function::{FullText, Record, Text};
+    use Function::{Record, Text};
 
     /// A row at the front of an image.
     fn front(image: &[u8]) -> Asked<'_> {
@@ -129,7 +130,7 @@ mod tests {
     /// Each function on the same bytes; for a row and for a map they are the image.
     fn each(bytes: &[u8]) -> [Asked<'_>; 5] {
         let [record, text, full_text] =
-            [Record, Text, FullText].map(|function| Asked::Bytes(function, bytes.to_vec()));
+            [Record, PLAIN_TEXT, FULL_TEXT].map(|function| Asked::Bytes(function, bytes.to_vec()));
         [
             record,
             text,
@@ -239,12 +240,45 @@ mod tests {
     #[test]
     fn texts_by_hand() {
         let Lent { passed, .. } = filled(5);
-        let plain = Asked::Bytes(Text, vec![0x00]);
+        let plain = Asked::Bytes(PLAIN_TEXT, vec![0x00]);
         let text = b"NOP\t [4, 0, 0, 0, 0, 0]";
         fits(&plain, text, (23, passed), (0, passed));
-        let full = Asked::Bytes(FullText, vec![0xDD, 0xCB, 0x80, 0xC7]);
+        let full = Asked::Bytes(FULL_TEXT, vec![0xDD, 0xCB, 0x80, 0xC7]);
         let longest = b"DD CB 80 C7 \t\tSET\t00, (IX-128), A [4, 4, 3, 5, 4, 3]";
         fits(&full, longest, (52, passed), (0, passed));
+    }
+
+    /// The parts alone and the empty text, which needs no room.
+    #[test]
+    fn parts_by_hand() {
+        let Lent { passed, .. } = filled(5);
+        let parts: [&[u8]; 3] = [b"18 80 \t\t", b"JR\t-126", b" [4, 3, 5, 0, 0, 0]"];
+        for (choice, part) in [1, 2, 4].into_iter().zip(parts) {
+            let asked = Asked::Bytes(Text(choice), vec![0x18, 0x80]);
+            fits(&asked, part, (part.len() as u32, passed), (0, passed));
+        }
+        let Outcome { number, lent, .. } = outcome(&Asked::Bytes(Text(0), vec![0x00]), 0);
+        let untouched = filled(5);
+        assert_eq!((number, lent.count, lent.missing), (0, 0, 0));
+        assert_eq!((lent.passed, lent.buffer), (passed, untouched.buffer));
+    }
+
+    /// A number that is no choice is refused before the bytes and the room are looked at.
+    #[test]
+    fn bad_choices_by_hand() {
+        for choice in [8, 9, 255] {
+            for ins in [&[][..], &[0xDD], &[0x00], &[0x00; 5]] {
+                for room in [0, 56] {
+                    let found = outcome(&Asked::Bytes(Text(choice), ins.to_vec()), room);
+                    let lent = Lent {
+                        count: 0,
+                        missing: 0,
+                        ..filled(5)
+                    };
+                    assert_eq!((found.number, found.lent), (26, lent), "{ins:02X?}");
+                }
+            }
+        }
     }
 
     /// A text that is Short says so before the room is looked at; one that has no room lacks no bytes.
@@ -257,7 +291,7 @@ mod tests {
             (&[], 1, 0),
         ];
         for (ins, number, missing) in cases {
-            for function in [Text, FullText] {
+            for function in [PLAIN_TEXT, FULL_TEXT] {
                 let found = outcome(&Asked::Bytes(function, ins.to_vec()), 22);
                 let lent = Lent {
                     count: 0,

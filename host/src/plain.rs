@@ -5,6 +5,7 @@ pub mod flow;
 pub mod listing;
 pub mod marking;
 pub mod missing;
+pub mod parts;
 pub mod record;
 pub mod row_times;
 pub mod said;

@@ -2,21 +2,37 @@
 
 use crate::answer::{RECORD_SIZE, TEXT_MAX};
 use crate::asked::Asked;
-use crate::function::Function;
+use crate::function::{Function, FULL_TEXT, PLAIN_TEXT};
 use crate::inputs;
 use crate::outcome::{expected, Call, Lent, Outcome, LOOKED_AT};
 use crate::plain::missing::missing;
 use crate::plain::record::EMPTY;
 use crate::plain::said::{said, said_of_bytes};
+use crate::rooms::rooms_around;
 use crate::stored::{distinct, padded, Row};
 use std::fmt::Write;
+use Function::Text;
 
 /// So much of the buffer is printed with a text.
 const PRINTED: usize = 56;
 
+/// The texts of the other choices, and of a number that is none.
+const OTHERS: [Function; 7] = [
+    Text(0),
+    Text(1),
+    Text(2),
+    Text(3),
+    Text(4),
+    Text(5),
+    Text(8),
+];
+
+/// Of every so many inputs one has another text stored.
+const STEP: usize = 4;
+
 /// All rows, none twice.
 pub fn rows() -> Vec<Row> {
-    distinct([records(), texts()].concat())
+    distinct([records(), texts(), other_texts()].concat())
 }
 
 fn records() -> Vec<Row> {
@@ -24,18 +40,36 @@ fn records() -> Vec<Row> {
     inputs.iter().map(|ins| record_row(ins)).collect()
 }
 
-/// Both texts of each input in a room that holds every text; then, of some, in every room up to two over their own length.
+/// Both of the original's own texts of each input in a room that holds every text; then, of some, in every room up to two over
+/// their own length.
 fn texts() -> Vec<Row> {
     let mut rows = vec![];
     for ins in inputs::of_texts() {
-        for function in [Function::Text, Function::FullText] {
+        for function in [PLAIN_TEXT, FULL_TEXT] {
             rows.push(text_row(function, &ins, TEXT_MAX));
         }
     }
     for ins in inputs::in_every_room() {
-        for function in [Function::Text, Function::FullText] {
+        for function in [PLAIN_TEXT, FULL_TEXT] {
             let own = said_of_bytes(function, ins).map_or(0, |text| text.len());
             rows.extend((0..=own + 2).map(|room| text_row(function, ins, room)));
+        }
+    }
+    rows
+}
+
+/// Of some inputs one of the other texts in turn, in a room that holds every text; then, of some, all of them in the rooms around
+/// their own length.
+fn other_texts() -> Vec<Row> {
+    let mut rows = vec![];
+    let some = inputs::of_texts().into_iter().step_by(STEP);
+    for (ins, function) in some.zip(OTHERS.into_iter().cycle()) {
+        rows.push(text_row(function, &ins, TEXT_MAX));
+    }
+    for ins in inputs::in_every_room().chain([&[][..]]) {
+        for function in OTHERS {
+            let rooms = rooms_around(function, ins).into_iter();
+            rows.extend(rooms.map(|room| text_row(function, ins, room.into())));
         }
     }
     rows
@@ -82,7 +116,7 @@ fn text_row(function: Function, ins: &[u8], room: usize) -> Row {
 
 /// The function's number, the room, the input's count and bytes.
 fn request(function: Function, room: usize, ins: &[u8]) -> Vec<u8> {
-    let head = [function as u8, room as u8, ins.len() as u8];
+    let head = [function.number() as u8, room as u8, ins.len() as u8];
     [&head[..], &padded(ins)].concat()
 }
 

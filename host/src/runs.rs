@@ -1,13 +1,14 @@
 //! The calls that are compared, in runs under a name.
 
-use crate::answer::TEXT_MAX;
 use crate::calls::{About, Calls, Inputs};
-use crate::function::Function;
+use crate::choice_runs::choice_runs;
+use crate::function::{Function, FULL_TEXT, PLAIN_TEXT};
 use crate::input_runs::{behind, behind_prefix, long, random, up_to_four, up_to_two, InputRun};
 use crate::map_runs::map_runs;
 use crate::pages::{edged, ED_BEHIND, PAGES};
+use crate::rooms::{enough_room, every_room};
 use crate::row_runs::row_runs;
-use crate::tally::{OF_BYTES, OF_MAPS, OF_ROWS};
+use crate::tally::{OF_BYTES, OF_CHOICES, OF_MAPS, OF_ROWS};
 
 /// So many maps at least come to each answer of the map check.
 const OF_EACH_ANSWER: usize = 2_000;
@@ -26,23 +27,6 @@ pub struct Group {
     pub to_meet: &'static [usize],
     pub at_least: usize,
     pub runs: Vec<(String, Run)>,
-}
-
-/// For the record none, one too few, exactly enough, one more, and more; for a text every room up to two over the longest.
-fn every_room(function: Function) -> Vec<u8> {
-    match function {
-        Function::Record => vec![0, 23, 24, 25, 40],
-        _ => (0..=TEXT_MAX as u8 + 2).collect(),
-    }
-}
-
-/// A room for all that the function may write: of three in turn the k-th.
-fn enough_room(function: Function, k: usize) -> Vec<u8> {
-    let rooms = match function {
-        Function::Record => [24, 25, 40],
-        _ => [52, 53, 56],
-    };
-    vec![rooms[k % rooms.len()]]
 }
 
 /// Calls over these inputs in every room.
@@ -120,15 +104,16 @@ fn group<N: Into<String>>(
 }
 
 /// All runs, by function.
-pub fn groups() -> [Group; 5] {
+pub fn groups() -> [Group; 6] {
     let maps = Group {
         at_least: OF_EACH_ANSWER,
         ..group("map check", &OF_MAPS, map_runs())
     };
     [
         group("record", &OF_BYTES, record_runs()),
-        group("text", &OF_BYTES, text_runs(Function::Text)),
-        group("full text", &OF_BYTES, text_runs(Function::FullText)),
+        group("plain text", &OF_BYTES, text_runs(PLAIN_TEXT)),
+        group("full text", &OF_BYTES, text_runs(FULL_TEXT)),
+        group("every text", &OF_CHOICES, choice_runs()),
         group("row", &OF_ROWS, row_runs()),
         maps,
     ]

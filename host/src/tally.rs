@@ -1,21 +1,27 @@
 //! What the compared calls of a function came to.
 
-use crate::answer::{name, REFUSALS};
+use crate::answer::{name, Refusal};
 use crate::asked::Asked;
 use crate::outcome::{difference, Call, Outcome};
 
 /// Differences past these are counted and not shown.
 const SHOWN: usize = 10;
 
-/// Besides the answer numbers: of a Short input, or of a row that is Done although its bytes are Short, one to three are missing.
-const ONE_MISSING: usize = REFUSALS.len() + 1;
+/// The last of the answer numbers.
+const LAST: usize = Refusal::BadChoice as usize;
+
+/// Besides these: of a Short input, or of a row that is Done although its bytes are Short, one to three are missing.
+const ONE_MISSING: usize = LAST + 1;
 const TWO_MISSING: usize = ONE_MISSING + 1;
 const THREE_MISSING: usize = TWO_MISSING + 1;
 
 const KINDS: usize = THREE_MISSING + 1;
 
-/// What the functions of a row's bytes may answer.
+/// What the functions of a row's bytes may answer, but for a choice that is none.
 pub const OF_BYTES: [usize; 8] = [0, 1, 2, 3, 4, ONE_MISSING, TWO_MISSING, THREE_MISSING];
+
+/// What `z80_text` may answer.
+pub const OF_CHOICES: [usize; 9] = [0, 1, 2, 3, 4, LAST, ONE_MISSING, TWO_MISSING, THREE_MISSING];
 
 /// What `z80_row` may answer.
 pub const OF_ROWS: [usize; 7] = [0, 1, 4, 5, ONE_MISSING, TWO_MISSING, THREE_MISSING];
@@ -27,7 +33,7 @@ pub const OF_MAPS: [usize; 10] = [0, 5, 6, 7, 8, 9, 10, 11, 12, 13];
 fn shown(kind: usize) -> String {
     match name(kind) {
         Some(name) => format!("{kind} {name}"),
-        None => format!("Short by {}", kind - REFUSALS.len()),
+        None => format!("Short by {}", kind - LAST),
     }
 }
 
@@ -44,7 +50,7 @@ impl Tally {
         self.calls += 1;
         self.met[expected.number as usize] += 1;
         if let missing @ 1.. = told_missing(call, &expected) {
-            self.met[REFUSALS.len() + missing] += 1;
+            self.met[LAST + missing] += 1;
         }
         let difference = difference(call, expected, found)?;
         self.differing += 1;
@@ -147,6 +153,21 @@ mod tests {
             tally.counts(),
             "1 Nothing: 1, 2 Short: 3, 4 NoRoom: 1, Short by 1: 1, Short by 2: 1, Short by 3: 1"
         );
+    }
+
+    /// A choice that is none is counted as that alone, though the bytes are Short.
+    #[test]
+    fn counted_by_choice() {
+        let mut tally = Tally::default();
+        let asked = Asked::Bytes(Function::Text(8), vec![0xDD]);
+        let call = Call {
+            asked: &asked,
+            room: 0,
+            before: filled(0),
+        };
+        let expected = expected(&call, &said(&asked));
+        assert_eq!(tally.add(&call, expected, expected), None);
+        assert_eq!(tally.counts(), "26 BadChoice: 1");
     }
 
     #[test]

@@ -1,7 +1,7 @@
 //! The constants of the C header held to those of Rust.
 
 use host::answer::{name, LINE_MAX, RECORD_SIZE, TEXT_MAX};
-use host::arguments::{DATA, INSIDE, START};
+use host::arguments::{BYTES, DATA, FULL, INSIDE, INSTRUCTION, PLAIN, START, TIMES};
 use std::collections::BTreeMap;
 use std::fs;
 
@@ -30,17 +30,22 @@ fn spelled(name: &str) -> String {
 
 #[test]
 fn constants_are_those_of_rust() {
-    let answers = (0..).map_while(|number| Some((spelled(&name(number)?), number)));
+    let answers = (0..=255).filter_map(|number| Some((spelled(&name(number)?), number)));
     let others = [
         ("RECORD_SIZE", RECORD_SIZE),
         ("TEXT_MAX", TEXT_MAX),
         ("LINE_MAX", LINE_MAX),
+        ("BYTES", BYTES.into()),
+        ("INSTRUCTION", INSTRUCTION.into()),
+        ("TIMES", TIMES.into()),
+        ("PLAIN", PLAIN.into()),
+        ("FULL", FULL.into()),
         ("DATA", DATA.into()),
         ("START", START.into()),
         ("INSIDE", INSIDE.into()),
     ];
     let others = others.map(|(name, number)| (name.to_owned(), number));
     let expected: BTreeMap<String, usize> = answers.chain(others).collect();
-    assert_eq!(expected.len(), 20);
+    assert_eq!(expected.len(), 26);
     assert_eq!(constants(), expected);
 }

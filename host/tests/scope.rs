@@ -2,7 +2,8 @@
 
 use host::answer::Refusal;
 use host::answer::TEXT_MAX;
-use host::function::Function::{FullText, Record, Text};
+use host::function::Function::Record;
+use host::function::{FULL_TEXT, PLAIN_TEXT};
 use host::original::disas;
 use host::pages::{edged, ED_BEHIND, PAGES};
 use host::plain::decoded;
@@ -68,12 +69,12 @@ fn texts() {
         let plain = text.trim_start().replace('>', "\t");
         let full = format!("{} \t\t{plain}", ins.trim_end());
         assert_eq!(
-            said_of_bytes(Text, &bytes(ins)),
+            said_of_bytes(PLAIN_TEXT, &bytes(ins)),
             Ok(plain.into_bytes()),
             "{row}"
         );
         assert_eq!(
-            said_of_bytes(FullText, &bytes(ins)),
+            said_of_bytes(FULL_TEXT, &bytes(ins)),
             Ok(full.into_bytes()),
             "{row}"
         );
@@ -84,7 +85,7 @@ fn texts() {
 fn longest_text() {
     let pages = PAGES.iter().chain(&ED_BEHIND);
     let inputs = pages.flat_map(|prefix| edged(prefix, 4));
-    let lengths = inputs.map(|ins| said_of_bytes(FullText, &ins).unwrap().len());
+    let lengths = inputs.map(|ins| said_of_bytes(FULL_TEXT, &ins).unwrap().len());
     assert_eq!(lengths.max(), Some(TEXT_MAX));
 }
 

@@ -12,8 +12,8 @@ use Rattle.table.specs.Consequences.{AllBytes, first}
 use Rattle.table.proofs.Pages.{chosen}
 use Rattle.wording.specs.declared.Written.{Written}
 use Rattle.wording.specs.Digits.{hex8, hex16, decimal, digitAt}
-use Rattle.wording.specs.Text.{fullText}
-use Rattle.wording.proofs.Longest.{full-most, drop-bytes}
+use Rattle.wording.specs.Text.{textOf}
+use Rattle.wording.proofs.Longest.{any-most, drop-bytes}
 use Rattle.line.specs.Line.{decodedLine, shortLine, lineBy}
 use Rattle.listing.specs.declared.Listed.{Listed}
 use Rattle.image.specs.Places.{wrongSize, outside, window, windowAt}
@@ -29,7 +29,7 @@ short-most : (a b k : ℕ) → length (shortLine a b k) ≤ 58
 unfolding shortLine hex8 hex16 decimal
 short-most a b k = simp length-append (omega (arith, digit-most k 10000, digit-most k 1000, digit-most k 100, digit-most k 10))
 
-by-most : (x : Answer) (a : ℕ) (r : OpCode) (b : ℕ) → (x ≡ Answer.Done → length (fullText r) ≤ 52) → length (lineBy x a r b) ≤ 58
+by-most : (x : Answer) (a : ℕ) (r : OpCode) (b : ℕ) → (x ≡ Answer.Done → length (textOf 7 r) ≤ 52) → length (lineBy x a r b) ≤ 58
 unfolding decodedLine hex8 hex16
 by-most Answer.Done a r b most = simp length-append (omega (arith, most refl))
 by-most Answer.Nothing a r b most = short-most a b 0
@@ -38,7 +38,7 @@ by-most Answer.Long a r b most = short-most a b 0
 
 pub line-most : (a : ℕ) (w : List ℕ) → AllBytes w → length (lineOf a w) ≤ 58
 unfolding lineOf
-line-most a w bytes = by-most (decodeOf w .answer) a (decodeOf w .rec) (first w) (full-most w bytes)
+line-most a w bytes = by-most (decodeOf w .answer) a (decodeOf w .rec) (first w) (any-most 7 w bytes)
 
 -- a window of bytes has bytes
 take-bytes : (n : ℕ) (s : List ℕ) → AllBytes s → AllBytes (take n s)

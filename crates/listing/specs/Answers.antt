@@ -36,6 +36,7 @@ listed Written.Nothing p = Listed.NoRoom
 listed (Written.Short k) p = Listed.NoRoom
 listed Written.Long p = Listed.NoRoom
 listed Written.NoRoom p = Listed.NoRoom
+listed Written.BadChoice p = Listed.NoRoom
 
 -- a row that looks at the bytes w, to lent bytes
 abbrev pub givenBy : ℕ → List ℕ → List ℕ → Listed

@@ -1,6 +1,6 @@
-// The two texts of a record: mnemonic, operands and T-states, and the same behind its bytes.
+// The text of a record: its bytes, mnemonic and operands, T-states, each where it is chosen.
 ghost use lib.ListN.{take, drop};
-ghost use Rattle.wording.specs.Text.{each, byteText, nextTime, timesText, operandsText, plainText, fullText};
+ghost use Rattle.wording.specs.Text.{each, byteText, nextTime, timesText, operandsText, bytesPart, instructionPart, timesPart, part, textOf};
 ghost use Rattle.writer.specs.Wrote.{Wrote};
 use names::put_name;
 use numerals::put_decimal;
@@ -55,19 +55,6 @@ fn put_operands(buf: &mut [u8], at: usize, rec: OpCode) -> usize
     put_place(buf, third, b", ", op3)
 }
 
-// The plain text: mnemonic, tab, operands, space, T-states.
-pub fn put_text(buf: &mut [u8], at: usize, rec: OpCode) -> usize
-    ensures { λ r. ⌜ Wrote (now (buf .entry)) at (plainText rec) (now (buf .exit)) r ⌝ }
-{
-    let ins = rec.ins;
-    let t = rec.tstates;
-    let name = put_name(buf, at, ins);
-    let operands = put(buf, name, b'\t');
-    let space = put_operands(buf, operands, rec);
-    let times = put(buf, space, b' ');
-    put_times(buf, times, t)
-}
-
 // The first n of the data bytes.
 fn put_data(buf: &mut [u8], at: usize, d: [u8; 4], n: u8) -> usize
     ensures { λ r. ⌜ Wrote (now (buf .entry)) at (each byteText (take n d)) (now (buf .exit)) r ⌝ }
@@ -82,13 +69,49 @@ fn put_data(buf: &mut [u8], at: usize, d: [u8; 4], n: u8) -> usize
     next
 }
 
-// The full text: the row's bytes, two tabs, the plain text.
-pub fn put_full_text(buf: &mut [u8], at: usize, rec: OpCode) -> usize
-    ensures { λ r. ⌜ Wrote (now (buf .entry)) at (fullText rec) (now (buf .exit)) r ⌝ }
+// The row's bytes and two tabs, if they are shown.
+fn put_bytes_part(buf: &mut [u8], at: usize, rec: OpCode, shown: bool) -> usize
+    ensures { λ r. ⌜ Wrote (now (buf .entry)) at (part shown (bytesPart rec)) (now (buf .exit)) r ⌝ }
 {
-    let length = rec.length;
-    let d = rec.data;
-    let tabs = put_data(buf, at, d, length.0);
-    let plain = put_bytes(buf, tabs, b"\t\t");
-    put_text(buf, plain, rec)
+    if shown {
+        let length = rec.length;
+        let d = rec.data;
+        let tabs = put_data(buf, at, d, length.0);
+        return put_bytes(buf, tabs, b"\t\t");
+    }
+    at
+}
+
+// Mnemonic, tab and operands, if they are shown.
+fn put_instruction_part(buf: &mut [u8], at: usize, rec: OpCode, shown: bool) -> usize
+    ensures { λ r. ⌜ Wrote (now (buf .entry)) at (part shown (instructionPart rec)) (now (buf .exit)) r ⌝ }
+{
+    if shown {
+        let ins = rec.ins;
+        let name = put_name(buf, at, ins);
+        let operands = put(buf, name, b'\t');
+        return put_operands(buf, operands, rec);
+    }
+    at
+}
+
+// A space and the T-states, if they are shown.
+fn put_times_part(buf: &mut [u8], at: usize, rec: OpCode, shown: bool) -> usize
+    ensures { λ r. ⌜ Wrote (now (buf .entry)) at (part shown (timesPart rec)) (now (buf .exit)) r ⌝ }
+{
+    if shown {
+        let t = rec.tstates;
+        let times = put(buf, at, b' ');
+        return put_times(buf, times, t);
+    }
+    at
+}
+
+// The parts of a choice: bytes 1, instruction 2, T-states 4, added up.
+pub fn put_text(buf: &mut [u8], at: usize, rec: OpCode, choice: u8) -> usize
+    ensures { λ r. ⌜ Wrote (now (buf .entry)) at (textOf choice rec) (now (buf .exit)) r ⌝ }
+{
+    let name = put_bytes_part(buf, at, rec, choice % 2 == 1);
+    let space = put_instruction_part(buf, name, rec, choice / 2 % 2 == 1);
+    put_times_part(buf, space, rec, choice / 4 % 2 == 1)
 }

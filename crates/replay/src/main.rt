@@ -2,12 +2,11 @@
 ghost use Prim.Native.Nat.{_≤_};
 ghost use lib.ListN.{length};
 use exports::record::z80_record;
-use exports::texts::z80_full_text;
 use exports::texts::z80_text;
 use libc::STDIN_FILENO;
 use libc::STDOUT_FILENO;
 
-// A request: what is asked for, the room lent, the count of input bytes, 0 to 5, then five bytes.
+// A request: what is asked for, 0 the record, else one more than the choice of a text; the room lent, the count of input bytes, 0 to 5, then five bytes.
 const REQUEST_SIZE: usize = 8;
 
 // All of the buffer is printed with a text, also what stands behind the room lent.
@@ -37,7 +36,9 @@ fn write_bytes(bytes: &[u8], before: &[u8], behind: &[u8]) {
 // The input bytes, the answer number and the fewest missing bytes.
 fn write_head(ins: &[u8], number: u8, missing: u32) {
     write_bytes(ins, b"", b" ");
-    io::write_all(STDOUT_FILENO, &[b'=', b' ', digit(number), b' ']);
+    io::write_all(STDOUT_FILENO, b"= ");
+    io::print_decimal(STDOUT_FILENO, number as u64);
+    io::write_all(STDOUT_FILENO, b" ");
     io::print_decimal(STDOUT_FILENO, missing as u64);
 }
 
@@ -50,21 +51,13 @@ fn write_record(ins: &[u8]) {
     write_bytes(&record, b" ", b"");
 }
 
-// The text asked for: 1 is the plain one, another number the full one.
-fn text(asked: u8, ins: &[u8], out: &mut [u8], count: &mut u32, missing: &mut u32) -> u8 {
-    if asked == 1 {
-        return z80_text(ins, out, count, missing);
-    }
-    z80_full_text(ins, out, count, missing)
-}
-
 // The count, which begins as no text's, as the missing bytes do, and the buffer as it is then.
-fn write_text(asked: u8, ins: &[u8], buffer: &mut [u8], room: usize)
+fn write_text(choice: u8, ins: &[u8], buffer: &mut [u8], room: usize)
     requires { ⌜ room ≤ length (now buffer) ⌝ }
 {
     let mut count = u32::MAX;
     let mut missing = u32::MAX;
-    let number = text(asked, ins, &mut buffer[0..room], &mut count, &mut missing);
+    let number = z80_text(choice, ins, &mut buffer[0..room], &mut count, &mut missing);
     write_head(ins, number, missing);
     io::write_all(STDOUT_FILENO, b" ");
     io::print_decimal(STDOUT_FILENO, count as u64);
@@ -82,7 +75,7 @@ fn answer(request: &[u8], asked: u8, room: u8, count: u8) -> bool {
         write_record(&request[3..end]);
     } else {
         let mut buffer = [b'.'; BUFFER_SIZE];
-        write_text(asked, &request[3..end], &mut buffer, room as usize);
+        write_text(asked - 1, &request[3..end], &mut buffer, room as usize);
     }
     io::write_all(STDOUT_FILENO, b"\n");
     true

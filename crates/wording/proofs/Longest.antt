@@ -1,16 +1,17 @@
--- No text of a decoded record is longer than 52 bytes, and one is 52 long. A row's text is longest where each byte behind its code is 80 hex, so one computed test over the rows at these bytes is enough.
+-- No text of a decoded record is longer than its choice's largest, 52 bytes for all three parts, and one is as long for each choice. A row's text is longest where each byte behind its code is 80 hex, so one computed test over the rows at these bytes is enough.
 -- Assumes nothing.
 use mathlib.Core.Path.{_≡_, refl, ap}
-use mathlib.Core.Bool.{Bool, true, _||_}
-use mathlib.Core.List.{List, [], _∷_}
-use Prim.Native.Nat.{ℕ, zero, suc, _*_, _≤_, _<_}
+use mathlib.Core.Bool.{Bool, true, false, cond, _&&_, _||_}
+use mathlib.Core.List.{List, [], _∷_, _++_}
+use Prim.Native.Nat.{ℕ, zero, suc, _+_, _*_, _≤_, _<_}
 use native.Mathlib.Nat.{le-refl, le-trans}
 use native.Mathlib.Omega.{arith}
-use lib.Dec.{eqb, leb, leb→le}
+use lib.Dec.{eqb, ltb, leb, leb→le}
 use lib.IntN.{ℤ}
 use lib.ListN.{length, take, drop, getD, length-append, length-take}
 use borrow.Author.Tests.{leb-true}
 use Rattle.opcode.specs.declared.instruction.Instruction.{Instruction}
+use Rattle.opcode.specs.declared.record.OpCode.{OpCode}
 use Rattle.table.specs.declared.Answer.{Answer}
 use Rattle.table.specs.declared.Decoded.{Decoded}
 use Rattle.table.specs.Signed.{signedOf, relativeOf}
@@ -22,15 +23,15 @@ use Rattle.table.specs.Prefix.{behindRow}
 use Rattle.table.specs.Decode.{isPrefix, rowOf, operandBytes, made, recordOf, four, rust, decodeOf}
 use Rattle.table.specs.Consequences.{values, AllBytes}
 use Rattle.table.proofs.Upto.{agree}
-use Rattle.table.proofs.Pages.{chosen}
+use Rattle.table.proofs.Pages.{both-left, both-right, chosen}
 use Rattle.table.proofs.Rows.{Everywhere, row-holds}
 use Rattle.table.proofs.Done.{decides}
 use Rattle.wording.specs.declared.Written.{Written}
 use Rattle.wording.specs.Ascii.{ascii}
 use Rattle.wording.specs.Digits.{hex8, hex16, decimal, digitAt, signed}
 use Rattle.wording.specs.Names.{names, nameOf, reg8Names, reg8Text, reg16Names, reg16Text, conditionNames, conditionText}
-use Rattle.wording.specs.Sizes.{textMost}
-use Rattle.wording.specs.Text.{placeText, each, byteText, plainText, fullText}
+use Rattle.wording.specs.Sizes.{textMost, bytesMost, instructionMost, timesMost, choiceMost}
+use Rattle.wording.specs.Text.{placeText, each, byteText, bytesPart, instructionPart, timesPart, part, hasBytes, hasInstruction, hasTimes, textOf}
 use Rattle.wording.specs.Answers.{countOf, answered, textAnswer}
 
 -- the bytes behind the code at which a row's text is longest, and data as long as any
@@ -80,23 +81,32 @@ unfolding hex8
 bytes-length [] = refl
 bytes-length (b ∷ s) = omega (arith, bytes-length s)
 
--- the same of a whole row
-made-most : (ins : Instruction) (x y z : Kind) (n : ℕ) (t : Cycles) (s d : List ℕ) → AllBytes s → length d ≡ 4 → length (fullText (made ins x y z n t s d)) ≤ length (fullText (made ins x y z n t lowest zeros))
-unfolding fullText plainText
-made-most ins x y z n t s d bytes size =
-    simp length-append
-    (omega (arith, place-most [] s bytes x, place-most (ascii ", ") s bytes y, place-most (ascii ", ") s bytes z, bytes-length (take n d), bytes-length (take n zeros), length-take n d, length-take n zeros))
+-- no part is longer than at these bytes
+record NoLonger (r q : OpCode) : Type 0 where
+  bytes : length (bytesPart r) ≤ length (bytesPart q)
+  instruction : length (instructionPart r) ≤ length (instructionPart q)
+  times : length (timesPart r) ≤ length (timesPart q)
 
-row-most : (x : Row) (s d : List ℕ) → AllBytes s → length d ≡ 4 → length (fullText (recordOf x s d)) ≤ length (fullText (recordOf x lowest zeros))
+made-most : (ins : Instruction) (x y z : Kind) (n : ℕ) (t : Cycles) (s d : List ℕ) → AllBytes s → length d ≡ 4 → NoLonger (made ins x y z n t s d) (made ins x y z n t lowest zeros)
+made-most ins x y z n t s d bytes size =
+    record {
+      bytes = simp length-append (omega (arith, bytes-length (take n d), bytes-length (take n zeros), length-take n d, length-take n zeros));
+      instruction = simp length-append (omega (arith, place-most [] s bytes x, place-most (ascii ", ") s bytes y, place-most (ascii ", ") s bytes z));
+      times = le-refl _;
+    }
+
+row-most : (x : Row) (s d : List ℕ) → AllBytes s → length d ≡ 4 → NoLonger (recordOf x s d) (recordOf x lowest zeros)
 row-most gap s d bytes size = made-most Instruction.NOP none none none 1 (t1 4) s d bytes size
 row-most (row ins x y z n t) s d bytes size = made-most ins x y z n t s d bytes size
 
 -- the test
 abbrev fits : Row → Bool
-fits x = leb (length (fullText (recordOf x lowest zeros))) textMost
+fits x =
+    let r = recordOf x lowest zeros in
+    leb (length (bytesPart r)) bytesMost && (leb (length (instructionPart r)) instructionMost && leb (length (timesPart r)) timesMost)
 
 all-fit : Everywhere fits
-unfolding plain cb ed fullText plainText hex8 hex16 decimal digitAt signed signedOf relativeOf nameOf names reg8Text reg8Names reg16Text reg16Names conditionText conditionNames
+unfolding plain cb ed hex8 hex16 decimal digitAt signed signedOf relativeOf nameOf names reg8Text reg8Names reg16Text reg16Names conditionText conditionNames
 all-fit =
     record {
       none = tt;
@@ -119,17 +129,51 @@ drop-bytes (suc n) (b ∷ s) bytes = drop-bytes n s (λ k. bytes (suc k))
 behind-bytes : (s : List ℕ) → AllBytes s → AllBytes (operandBytes s)
 behind-bytes s bytes = chosen AllBytes (isPrefix (getD s 0 0) || (eqb (getD s 0 0) 0xCB || eqb (getD s 0 0) 0xED)) (drop 2 s) (drop 1 s) (drop-bytes 2 s bytes) (drop-bytes 1 s bytes)
 
-module _ (s : List ℕ) (bytes : AllBytes s) (done : decodeOf s .answer ≡ Answer.Done) where
-  pub full-most : length (fullText (decodeOf s .rec)) ≤ textMost
-  unfolding decodeOf
-  full-most =
-      let x = rowOf s in
-      rw (ap (λ (d : Decoded). d .rec) (decides rust s done .made))
-      (le-trans (row-most x (operandBytes s) (four s) (behind-bytes s bytes) refl) (leb→le (length (fullText (recordOf x lowest zeros))) textMost (row-holds fits all-fit s)))
+-- what a choice adds up to
+adds : (u v w : Bool) (x y z : List ℕ) (b i t : ℕ) → length x ≤ b → length y ≤ i → length z ≤ t → length (part u x ++ part v y ++ part w z) ≤ cond u b 0 + cond v i 0 + cond w t 0
+adds true true true x y z b i t p q r = simp length-append (omega arith)
+adds true true false x y z b i t p q r = simp length-append (omega arith)
+adds true false true x y z b i t p q r = simp length-append (omega arith)
+adds true false false x y z b i t p q r = simp length-append (omega arith)
+adds false true true x y z b i t p q r = simp length-append (omega arith)
+adds false true false x y z b i t p q r = simp length-append (omega arith)
+adds false false true x y z b i t p q r = simp length-append (omega arith)
+adds false false false x y z b i t p q r = omega arith
 
-  pub plain-most : length (plainText (decodeOf s .rec)) ≤ textMost
-  unfolding fullText
-  plain-most = let h = simp length-append at full-most in omega arith
+module _ (choice : ℕ) where
+  -- a choice's largest is at most 52
+  pub choice-most : choiceMost choice ≤ textMost
+  choice-most = by-tests (hasBytes choice) (hasInstruction choice) (hasTimes choice)
+    where
+      by-tests : (u v w : Bool) → cond u bytesMost 0 + cond v instructionMost 0 + cond w timesMost 0 ≤ textMost
+      by-tests true true true = omega arith
+      by-tests true true false = omega arith
+      by-tests true false true = omega arith
+      by-tests true false false = omega arith
+      by-tests false true true = omega arith
+      by-tests false true false = omega arith
+      by-tests false false true = omega arith
+      by-tests false false false = omega arith
+
+  module _ (s : List ℕ) (bytes : AllBytes s) (done : decodeOf s .answer ≡ Answer.Done) where
+    -- no text of a decoded record is longer than its choice's largest
+    pub text-most : length (textOf choice (decodeOf s .rec)) ≤ choiceMost choice
+    unfolding decodeOf textOf
+    text-most =
+        let x = rowOf s in
+        let q = recordOf x lowest zeros in
+        let p = row-most x (operandBytes s) (four s) (behind-bytes s bytes) refl in
+        let f = row-holds fits all-fit s in
+        let g = both-right (leb (length (bytesPart q)) bytesMost) _ f in
+        let r = recordOf x (operandBytes s) (four s) in
+        rw (ap (λ (d : Decoded). d .rec) (decides rust s done .made))
+        (adds (hasBytes choice) (hasInstruction choice) (hasTimes choice) (bytesPart r) (instructionPart r) (timesPart r) bytesMost instructionMost timesMost
+        (le-trans (p .bytes) (leb→le (length (bytesPart q)) bytesMost (both-left (leb (length (bytesPart q)) bytesMost) _ f)))
+        (le-trans (p .instruction) (leb→le (length (instructionPart q)) instructionMost (both-left (leb (length (instructionPart q)) instructionMost) _ g)))
+        (le-trans (p .times) (leb→le (length (timesPart q)) timesMost (both-right (leb (length (instructionPart q)) instructionMost) _ g))))
+
+    pub any-most : length (textOf choice (decodeOf s .rec)) ≤ textMost
+    any-most = le-trans text-most choice-most
 
 -- nor is any count
 count-most : (a : Answer) (t out : List ℕ) → (a ≡ Answer.Done → length t ≤ textMost) → countOf (answered a t out) ≤ textMost
@@ -138,14 +182,14 @@ count-most Answer.Nothing t out most = omega arith
 count-most (Answer.Short k) t out most = omega arith
 count-most Answer.Long t out most = omega arith
 
-module _ (s : List ℕ) (bytes : AllBytes s) (out : List ℕ) where
-  pub full-count : countOf (textAnswer fullText (decodeOf s) out) ≤ textMost
-  full-count = count-most (decodeOf s .answer) (fullText (decodeOf s .rec)) out (full-most s bytes)
+pub text-count : (choice : ℕ) (s : List ℕ) → AllBytes s → (out : List ℕ) → countOf (textAnswer choice (decodeOf s) out) ≤ textMost
+text-count choice s bytes out =
+    chosen (λ (w : Written). countOf w ≤ textMost) (ltb 7 choice) _ _ (omega arith) (count-most (decodeOf s .answer) (textOf choice (decodeOf s .rec)) out (any-most choice s bytes))
 
-  pub plain-count : countOf (textAnswer plainText (decodeOf s) out) ≤ textMost
-  plain-count = count-most (decodeOf s .answer) (plainText (decodeOf s .rec)) out (plain-most s bytes)
+-- DD CB 80 C7 is SET 00, (IX-128), A: each of its texts is the longest of its choice
+abbrev longest : OpCode
+longest = decodeOf (0xDD ∷ 0xCB ∷ 0x80 ∷ 0xC7 ∷ []) .rec
 
--- DD CB 80 C7 is SET 00, (IX-128), A: its full text is the longest
-pub full-reached : length (fullText (decodeOf (0xDD ∷ 0xCB ∷ 0x80 ∷ 0xC7 ∷ []) .rec)) ≡ textMost
-unfolding decodeOf rowOf behindRow cb fullText plainText hex8 hex16 decimal digitAt signed signedOf nameOf names reg8Text reg8Names reg16Text reg16Names
-full-reached = refl
+pub most-reached : values (λ (choice : ℕ). length (textOf choice longest)) 0 8 ≡ values choiceMost 0 8
+unfolding decodeOf rowOf behindRow cb textOf hex8 hex16 decimal digitAt signed signedOf nameOf names reg8Text reg8Names reg16Text reg16Names
+most-reached = refl

@@ -9,7 +9,8 @@ use crate::mixed::Mixed;
 
 /// The rules of the map check, in the order of their numbers.
 pub fn rules() -> impl Iterator<Item = Refusal> {
-    let of_maps = |refusal: &Refusal| *refusal as u8 >= ImageSize as u8;
+    let numbers = ImageSize as u8..=BadNext as u8;
+    let of_maps = move |refusal: &Refusal| numbers.contains(&(*refusal as u8));
     REFUSALS.into_iter().filter(of_maps)
 }
 

@@ -4,10 +4,11 @@ use super::decoded;
 use super::listing::row;
 use super::marking::judged;
 use super::missing::missing;
+use super::parts::{chosen, is_choice};
 use super::record::record;
 use crate::answer::{Refusal, Refused};
 use crate::asked::Asked;
-use crate::function::Function;
+use crate::function::{Function, FULL_TEXT, PLAIN_TEXT};
 use crate::original::OpCode;
 use std::io::{self, Write};
 
@@ -25,11 +26,11 @@ pub struct Said {
 }
 
 pub fn said(asked: &Asked) -> Said {
-    let missing = match asked {
-        Asked::Bytes(_, ins) => missing(ins),
-        Asked::Row(_) | Asked::Map(_) => 0,
-    };
     let written = written(asked);
+    let missing = match (asked, &written) {
+        (Asked::Bytes(_, ins), Err(refused)) if refused.refusal == Refusal::Short => missing(ins),
+        _ => 0,
+    };
     Said { written, missing }
 }
 
@@ -48,8 +49,11 @@ fn written(asked: &Asked) -> Result<Written, Refused> {
     Ok(Written { bytes, passed })
 }
 
-/// What the original says of some bytes.
+/// What the original says of some bytes; a number that is no choice of a text is refused before they are looked at.
 pub fn said_of_bytes(function: Function, ins: &[u8]) -> Result<Vec<u8>, Refusal> {
+    if matches!(function, Function::Text(choice) if !is_choice(choice)) {
+        return Err(Refusal::BadChoice);
+    }
     let opcode = decoded(ins)?;
     let mut said = vec![];
     let written = write(function, opcode, &mut said);
@@ -57,11 +61,12 @@ pub fn said_of_bytes(function: Function, ins: &[u8]) -> Result<Vec<u8>, Refusal>
     Ok(said)
 }
 
-/// Writes the original's record, its Display or its Debug; an error where there is no room for it.
+/// Writes the original's record, its Display, its Debug, or parts of these two; an error where there is no room for it.
 pub fn write(function: Function, opcode: OpCode, to: &mut impl Write) -> io::Result<()> {
     match function {
         Function::Record => to.write_all(&record(opcode)),
-        Function::Text => write!(to, "{opcode}"),
-        Function::FullText => write!(to, "{opcode:?}"),
+        PLAIN_TEXT => write!(to, "{opcode}"),
+        FULL_TEXT => write!(to, "{opcode:?}"),
+        Function::Text(choice) => write!(to, "{}", chosen(choice, &opcode)),
     }
 }

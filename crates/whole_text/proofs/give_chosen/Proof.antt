@@ -10,14 +10,14 @@ use borrow.Author.Needs.{needs}
 use Rattle.whole_text.proofs.give_chosen.Statement.{statement}
 use Rattle.whole_text.proofs.give_chosen.Tie as tie
 
-part : (k : tie.After-put-chosen) → take (k .put-chosen .result - 0) (drop 0 (k .put-chosen .last .0)) ≡ upTo (k .before .before .before .args .full) (k .before .before .before .args .rec)
+part : (k : tie.After-put-text) → take (k .put-text .result - 0) (drop 0 (k .put-text .last .0)) ≡ upTo (k .before .before .before .args .choice) (k .before .before .before .args .rec)
 part k =
-    let n = k .put-chosen .result in
+    let n = k .put-text .result in
     let e : n - 0 ≡ n = omega arith in
-    rw e (start (k .put-chosen .ensures))
+    rw e (start (k .put-text .ensures))
 
 part-give-end : tie.Need-part-give-end
-part-give-end c = omega (arith, within (c .before .before .put-chosen .ensures), size (c .before .before .put-chosen .ensures))
+part-give-end c = omega (arith, within (c .before .before .put-text .ensures), size (c .before .before .put-text .ensures))
 
 returns : tie.Need-returns
 returns c = rw (← part (c .before .before .before .before .before .before .before)) (c .before .before .give .ensures)

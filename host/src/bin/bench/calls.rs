@@ -5,8 +5,9 @@ use crate::rounds::{take, times};
 use crate::table::Table;
 use host::answer::RECORD_SIZE;
 use host::answer::TEXT_MAX;
-use host::exported::{z80_full_text, z80_record, z80_text};
-use host::function::Function;
+use host::arguments::{FULL, PLAIN};
+use host::exported::{z80_record, z80_text};
+use host::function::{Function, FULL_TEXT, PLAIN_TEXT};
 use host::original::disas;
 use host::plain::record::record;
 use host::plain::said::said_of_bytes;
@@ -35,14 +36,14 @@ const PAIRS: [Pair; 4] = [
     },
     Pair {
         work: "plain text",
-        function: Function::Text,
-        ours: |ins| take(our_text(ins, z80_text)),
+        function: PLAIN_TEXT,
+        ours: |ins| take(our_text(PLAIN, ins)),
         theirs: |ins| take(format!("{}", disas(ins).unwrap())),
     },
     Pair {
         work: "full text",
-        function: Function::FullText,
-        ours: |ins| take(our_text(ins, z80_full_text)),
+        function: FULL_TEXT,
+        ours: |ins| take(our_text(FULL, ins)),
         theirs: |ins| take(format!("{:?}", disas(ins).unwrap())),
     },
 ];
@@ -53,12 +54,9 @@ fn our_record(ins: &Input) -> [u8; RECORD_SIZE] {
     out
 }
 
-/// `z80_text` or `z80_full_text`.
-type MakeText = fn(&[u8], &mut [u8], &mut u32, &mut u32) -> u8;
-
-fn our_text(ins: &Input, make: MakeText) -> ([u8; TEXT_MAX], u32) {
+fn our_text(choice: u8, ins: &Input) -> ([u8; TEXT_MAX], u32) {
     let (mut out, mut count, mut missing) = ([0; TEXT_MAX], 0, 0);
-    make(ins, &mut out, &mut count, &mut missing);
+    z80_text(choice, ins, &mut out, &mut count, &mut missing);
     (out, count)
 }
 
@@ -66,8 +64,7 @@ fn our_text(ins: &Input, make: MakeText) -> ([u8; TEXT_MAX], u32) {
 fn written(function: Function, ins: &Input) -> Vec<u8> {
     let (out, count) = match function {
         Function::Record => return our_record(ins).to_vec(),
-        Function::Text => our_text(ins, z80_text),
-        Function::FullText => our_text(ins, z80_full_text),
+        Function::Text(choice) => our_text(choice, ins),
     };
     out[..count as usize].to_vec()
 }

@@ -57,7 +57,7 @@ impl Archive {
     fn ask(&mut self, wanted: Wanted, block: u16) -> io::Result<()> {
         let numbers = [
             wanted as u32,
-            self.function as u32,
+            self.function.number().into(),
             first(block),
             INPUTS as u32,
         ];

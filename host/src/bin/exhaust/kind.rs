@@ -1,6 +1,6 @@
 //! What may be compared, by the words of the command line.
 
-use host::function::Function;
+use host::function::{Function, FULL_TEXT, PLAIN_TEXT};
 
 #[derive(Debug, PartialEq, Eq, Clone, Copy)]
 pub struct Kind {
@@ -14,8 +14,8 @@ const fn kind(name: &'static str, function: Function) -> Kind {
 
 const KINDS: [Kind; 3] = [
     kind("records", Function::Record),
-    kind("texts", Function::Text),
-    kind("full_texts", Function::FullText),
+    kind("texts", PLAIN_TEXT),
+    kind("full_texts", FULL_TEXT),
 ];
 
 /// The kinds that are named, all where none is; nothing where a word names none.

@@ -55,7 +55,7 @@ impl Left {
     fn new(function: Function, number: u32, count: u32, lent: [u8; LENT]) -> Left {
         let count = match function {
             Function::Record => NONE,
-            Function::Text | Function::FullText => count,
+            Function::Text(_) => count,
         };
         Left {
             number,
@@ -86,7 +86,7 @@ fn word(low: u32, high: u32) -> u64 {
 fn room(function: Function) -> usize {
     match function {
         Function::Record => RECORD_SIZE,
-        Function::Text | Function::FullText => TEXT_MAX,
+        Function::Text(_) => TEXT_MAX,
     }
 }
 
@@ -111,6 +111,7 @@ impl fmt::Display for Left {
 #[cfg(test)]
 mod tests {
     use super::*;
+    use host::function::{FULL_TEXT, PLAIN_TEXT};
 
     /// These bytes at the front, then the fill.
     fn lent(written: &[u8]) -> [u8; LENT] {
@@ -125,8 +126,8 @@ mod tests {
         let full = b"18 80 \t\tJR\t-126 [4, 3, 5, 0, 0, 0]";
         let expected = [
             (Function::Record, 0xA5A5_A5A5, &record[..]),
-            (Function::Text, 26, plain),
-            (Function::FullText, 34, full),
+            (PLAIN_TEXT, 26, plain),
+            (FULL_TEXT, 34, full),
         ];
         for (function, count, written) in expected {
             let expected = Left {
@@ -144,9 +145,9 @@ mod tests {
     #[test]
     fn no_room() {
         let mut opcode = decoded(&[0xDD, 0xCB, 0x80, 0xC7]).unwrap();
-        assert!(Left::written(Function::FullText, opcode.clone()).is_ok());
+        assert!(Left::written(FULL_TEXT, opcode.clone()).is_ok());
         opcode.op1 = opcode.op2;
-        let refused = Left::written(Function::FullText, opcode);
+        let refused = Left::written(FULL_TEXT, opcode);
         assert_eq!(refused, Err(Refusal::NoRoom));
     }
 
@@ -164,7 +165,7 @@ mod tests {
 
     #[test]
     fn shown() {
-        let text = Left::by_original(Function::Text, 0).to_string();
+        let text = Left::by_original(PLAIN_TEXT, 0).to_string();
         assert_eq!(text, r#"0, count 23, "NOP\t [4, 0, 0, 0, 0, 0]""#);
         let mut record = Left::by_original(Function::Record, 0);
         let bytes = "01, 23, 00, 00, 00, 00, 00, 00, 00, 00, 00, 00, 00, 00, 00, 04, 00, 00, 00, 00, 00, 01, 04, 04";

@@ -3,7 +3,7 @@ use mathlib.Core.Path.{ap, _∙_}
 use native.Mathlib.Omega.{arith}
 use denote.Ref.{now}
 use Rattle.wording.specs.Answers.{numberOf, countOf, missingOf}
-use Rattle.wording.proofs.Longest.{plain-count}
+use Rattle.wording.proofs.Longest.{text-count}
 use borrow.Author.Needs.{needs}
 use Rattle.exports.proofs.texts.z80_text.Statement.{statement}
 use Rattle.exports.proofs.texts.z80_text.Tie as tie
@@ -12,7 +12,7 @@ use Rattle.exports.proofs.texts.z80_text.Tie as tie
 cast-count : tie.Need-cast-count
 cast-count c =
     let s = c .before .before .before .before .before .before .before .before .args in
-    let most = rw (← c .before .before .before .before .text .ensures .0, ← c .before .tell .ensures .1 .0) at (plain-count (now (s .ins)) (λ k. c .before .before .before .before .before .before .before .shared-slice-known .given k .fits) (now (s .out))) in
+    let most = rw (← c .before .before .before .before .text .ensures .0, ← c .before .tell .ensures .1 .0) at (text-count (s .choice) (now (s .ins)) (λ k. c .before .before .before .before .before .before .before .shared-slice-known .given k .fits) (now (s .out))) in
     record { fits = omega arith }
 
 returns : tie.Need-returns
