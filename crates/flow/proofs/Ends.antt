@@ -1,10 +1,12 @@
--- A decoded row that leads to a place it does not name is a jump whose first operand is HL, IX or IY: what the definitions say of other rows without a target is never met. Assumes nothing.
+-- A decoded row that leads to a place it does not name is a JP whose first operand is HL, IX or IY: what the definitions say of other rows without a target is never met. Assumes nothing.
 use Prim.Native.Nat.{ℕ}
 use native.Mathlib.Omega.{arith}
 use mathlib.Core.Path.{_≡_, sym, ap, subst}
 use mathlib.Core.Bool.{Bool, true, _&&_}
 use mathlib.Core.List.{List}
-use lib.Dec.{T}
+use lib.Dec.{T, eqb, eqb→eq}
+use denote.Enum.Declared.{tagOf}
+use Rattle.opcode.proofs.instruction.Instruction.{the-type}
 use Rattle.opcode.specs.declared.instruction.Instruction.{Instruction}
 use Rattle.opcode.specs.declared.operand.Place.{Place}
 use Rattle.opcode.specs.declared.record.OpCode.{OpCode}
@@ -19,9 +21,11 @@ use Rattle.table.proofs.Rows.{Everywhere, row-holds}
 use Rattle.table.proofs.Done.{decides}
 use Rattle.marking.specs.declared.Flow.{Flow}
 use Rattle.flow.specs.Flow.{leadOf, flowBy, flowOf}
-use Rattle.flow.specs.Consequences.{jumps, hasPointer}
+use Rattle.table.proofs.Pages.{both-left, both-right}
+use Rattle.flow.specs.Consequences.{hasPointer, ByRegister}
+use Rattle.flow.proofs.Jump.{is-jp}
 
--- a row that goes on so, with such an instruction and first operand, names where it leads, or is a jump with HL, IX or IY there
+-- a row that goes on so, with such an instruction and first operand, names where it leads, or is a JP with HL, IX or IY there
 abbrev told : Flow → Instruction → Place → Bool
 told Flow.After i p = true
 told (Flow.Jump t) i p = true
@@ -31,7 +35,7 @@ told (Flow.CallIf t) i p = true
 told (Flow.Restart t) i p = true
 told Flow.Return i p = true
 told Flow.ReturnIf i p = true
-told Flow.RegisterJump i p = jumps i && hasPointer p
+told Flow.RegisterJump i p = eqb (tagOf the-type i) 27 && hasPointer p
 told Flow.Repeat i p = true
 
 module _ (a : ℕ) (s : List ℕ) where
@@ -54,13 +58,18 @@ module _ (a : ℕ) (s : List ℕ) where
         on-bit = λ i. elim i [ ix ↦ tt | iy ↦ tt ];
       }
 
-  of-row : (x : Row) (d : List ℕ) → T (tells x) → flowOf a (recordOf x s d) ≡ Flow.RegisterJump → T (jumps (recordOf x s d .ins) && hasPointer (recordOf x s d .op1))
+  of-row : (x : Row) (d : List ℕ) → T (tells x) → flowOf a (recordOf x s d) ≡ Flow.RegisterJump → ByRegister (recordOf x s d)
   of-row gap d w e = let z : _≡_ {A = ℕ} 0 1 = cc e in absurd (omega arith)
-  of-row (row i x y z n t) d w e = subst (λ (f : Flow). T (told f i (read x s))) e w
+  of-row (row i x y z n t) d w e =
+      let v = subst (λ (f : Flow). T (told f i (read x s))) e w in
+      record {
+        jump = is-jp i (eqb→eq (tagOf the-type i) 27 (both-left (eqb (tagOf the-type i) 27) (hasPointer (read x s)) v));
+        pointer = both-right (eqb (tagOf the-type i) 27) (hasPointer (read x s)) v;
+      }
 
-pub register-jumps : (a : ℕ) (s : List ℕ) → decodeOf s .answer ≡ Answer.Done → flowOf a (decodeOf s .rec) ≡ Flow.RegisterJump → T (jumps (decodeOf s .rec .ins) && hasPointer (decodeOf s .rec .op1))
+pub register-jumps : (a : ℕ) (s : List ℕ) → decodeOf s .answer ≡ Answer.Done → flowOf a (decodeOf s .rec) ≡ Flow.RegisterJump → ByRegister (decodeOf s .rec)
 unfolding decodeOf
 register-jumps a s done e =
     let made : decodeOf s .rec ≡ recordOf (rowOf s) (operandBytes s) (four s) = ap (λ (u : Decoded). u .rec) (decides rust s done .made) in
-    subst (λ (o : OpCode). T (jumps (o .ins) && hasPointer (o .op1))) (sym made)
+    subst ByRegister (sym made)
     (of-row a (operandBytes s) (rowOf s) (four s) (row-holds (tells a (operandBytes s)) (all-tell a (operandBytes s)) s) (subst (λ (o : OpCode). flowOf a o ≡ Flow.RegisterJump) made e))

@@ -11,3 +11,4 @@ pub mod Answers
 pub mod Recursive
 pub mod Decided
 pub mod Missing
+pub mod Manual

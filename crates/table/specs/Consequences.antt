@@ -11,8 +11,8 @@ use Rattle.opcode.specs.declared.record.OpCode.{OpCode}
 use Rattle.opcode.specs.Record.{unfilled}
 use Rattle.opcode.specs.Times.{timeOf}
 use Rattle.table.specs.declared.Answer.{Answer}
-use Rattle.table.specs.Row.{Cycles, always, conditional, repeating, Row, row, gap, is-at-hl}
-use Rattle.table.specs.Departures.{oneFigure, afterFirst}
+use Rattle.table.specs.Row.{Kind, none, is, hl, h, l, at-hl, byte, word, at-word, at-port, rel, at-index, byte-behind, Cycles, always, conditional, repeating, Row, row, gap, is-at-hl}
+use Rattle.table.specs.Departures.{oneFigure, afterFirst, swapped}
 use Rattle.table.specs.Ed.{ed}
 use Rattle.table.specs.Prefix.{is-hl}
 use Rattle.table.specs.Decode.{pageRow, made, four, done, Reading, decodeBy, decodeOf}
@@ -158,11 +158,42 @@ abbrev pub Figures : Row → Type 0
 Figures gap = Unit {0}
 Figures (row i x y z n t) = (s d : List ℕ) → (made i x y z n t s d .least .0 ≡ total (quick t)) × (made i x y z n t s d .most .0 ≡ total (slow t))
 
+-- a row at a code of a list of them
+abbrev pub listed : ℕ → List (ℕ × Row) → Bool
+listed b [] = false
+listed b (p ∷ ps) = eqb (p .0) b || listed b ps
+
+-- HL or (HL)
+abbrev pub is-pair : Kind → Bool
+is-pair none = false
+is-pair (is o) = false
+is-pair hl = true
+is-pair h = false
+is-pair l = false
+is-pair at-hl = true
+is-pair byte = false
+is-pair word = false
+is-pair at-word = false
+is-pair at-port = false
+is-pair rel = false
+is-pair (at-index i) = false
+is-pair byte-behind = false
+
+-- a row whose first or second operand is
+abbrev pub names-pair : Row → Bool
+names-pair gap = false
+names-pair (row i x y z n t) = is-pair x || is-pair y
+
 abbrev pub same : List ℕ → List ℕ → Bool
 same [] [] = true
 same [] (u ∷ us) = false
 same (t ∷ ts) [] = false
 same (t ∷ ts) (u ∷ us) = eqb t u && same ts us
+
+-- a row of UM0080 behind a prefix whose first two cycles differ, so that the original has them in another order
+abbrev pub moved : Row → Bool
+moved gap = false
+moved (row i x y z n t) = not (same (swapped (oneFigure t)) (oneFigure t))
 
 -- a row whose HL, H or L is renamed, with its cycles in another order than UM0080's, which has the prefix's [4] in front
 abbrev pub reordered : Row → Bool

@@ -8,5 +8,6 @@ pub mod Ed
 pub mod Prefix
 pub mod Decode
 pub mod Consequences
+pub mod IndexPage
 pub mod Steps
 pub mod Bits

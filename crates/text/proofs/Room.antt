@@ -9,7 +9,7 @@ use Rattle.table.specs.Consequences.{AllBytes}
 use Rattle.wording.specs.Sizes.{textMost}
 use Rattle.wording.specs.Text.{textOf}
 use Rattle.wording.proofs.Longest.{any-most}
-use Rattle.whole_text.specs.Chosen.{upTo}
+use Rattle.text.specs.Chosen.{upTo}
 
 pub all-given : (choice : ℕ) (s : List ℕ) → AllBytes s → decodeOf s .answer ≡ Answer.Done → upTo choice (decodeOf s .rec) ≡ textOf choice (decodeOf s .rec)
 all-given choice s bytes done = take-all textMost (textOf choice (decodeOf s .rec)) (any-most choice s bytes done)

@@ -4,11 +4,11 @@ use Prim.Native.Nat.{_-_}
 use native.Mathlib.Omega.{arith}
 use lib.ListN.{take, drop}
 use Rattle.writer.proofs.Laws.{size}
-use Rattle.whole_text.specs.Chosen.{upTo}
-use Rattle.whole_text.proofs.Front.{start, within}
+use Rattle.text.specs.Chosen.{upTo}
+use Rattle.text.proofs.Front.{start, within}
 use borrow.Author.Needs.{needs}
-use Rattle.whole_text.proofs.give_chosen.Statement.{statement}
-use Rattle.whole_text.proofs.give_chosen.Tie as tie
+use Rattle.text.proofs.give_chosen.Statement.{statement}
+use Rattle.text.proofs.give_chosen.Tie as tie
 
 part : (k : tie.After-put-text) → take (k .put-text .result - 0) (drop 0 (k .put-text .last .0)) ≡ upTo (k .before .before .before .args .choice) (k .before .before .before .args .rec)
 part k =
