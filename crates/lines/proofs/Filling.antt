@@ -6,14 +6,12 @@ use Prim.Native.Nat.{ℕ, _+_, _-_, _<_, _≤_}
 use native.Mathlib.Omega.{arith}
 use lib.ListN.{length, take, drop, length-append, length-drop}
 use lib.Seq.{drop-drop}
-use Rattle.table.specs.Consequences.{AllBytes}
 use Rattle.writer.specs.Wrote.{Wrote}
 use Rattle.writer.proofs.Laws.{_▸_, none, counted, whole}
 use Rattle.image.specs.Places.{window}
 use Rattle.listing.specs.Rows.{lineOf, passedOf, Row, rowAt, listing, printed, joined}
 use Rattle.listing.specs.Page.{page}
 use Rattle.listing.proofs.Passed.{passed-within}
-use Rattle.listing.proofs.Longest.{line-most, window-bytes}
 use Rattle.listing.proofs.Page.{page-next, page-full, page-none, passed-bytes}
 
 module _ (image : List ℕ) (origin start : ℕ) (old : List ℕ) where
@@ -31,6 +29,10 @@ module _ (image : List ℕ) (origin start : ℕ) (old : List ℕ) where
     pub lines : done ++ printed (onwards place (length old - length done)) ≡ printed (onwards start (length old))
     pub passes : place + length (joined (onwards place (length old - length done))) ≡ start + length (joined (onwards start (length old)))
 
+  -- the image's end is reached, or a line that does not fit
+  abbrev pub Over : ℕ → ℕ → Type 0
+  Over next place = (length image ≤ place) ⊎ ((place < length image) × (length old - next < length (lineOf (origin + place) (window (drop place image)))))
+
   pub begins : start ≤ length image → Filling old 0 start
   begins h =
       let e : length old - 0 ≡ length old = omega arith in
@@ -44,7 +46,7 @@ module _ (image : List ℕ) (origin start : ℕ) (old : List ℕ) where
         passes = ap (λ (n : ℕ). start + length (joined (onwards start n))) e;
       }
 
-  module _ {out : List ℕ} {next place : ℕ} (bytes : AllBytes image) (f : Filling out next place) (some : place < length image) (room : 58 ≤ length old - next) where
+  module _ {out : List ℕ} {next place : ℕ} (f : Filling out next place) (some : place < length image) (room : length (lineOf (origin + place) (window (drop place image))) ≤ length old - next) where
     abbrev here : List ℕ
     here = drop place image
 
@@ -68,7 +70,7 @@ module _ (image : List ℕ) (origin start : ℕ) (old : List ℕ) where
     split =
         let left : length old - length (f .done) - length line ≡ length old - length (f .done ++ line) = omega (arith, size) in
         let address : origin + place + passed ≡ origin + (place + passed) = omega arith in
-        page-next (length old - length (f .done)) (origin + place) here any (omega (arith, reached))
+        page-next (length old - length (f .done)) (origin + place) here any (omega (arith, reached, room))
         ∙ ap (λ (n : ℕ). rowAt (origin + place) here ∷ page n (listing (origin + place + passed) (drop passed here))) left
         ∙ ap (λ (a : ℕ). rowAt (origin + place) here ∷ page (length old - length (f .done ++ line)) (listing a (drop passed here))) address
         ∙ ap (λ (l : List ℕ). rowAt (origin + place) here ∷ page (length old - length (f .done ++ line)) (listing (origin + (place + passed)) l)) (drop-drop passed place image)
@@ -76,23 +78,22 @@ module _ (image : List ℕ) (origin start : ℕ) (old : List ℕ) where
     pub goes-on : {new : List ℕ} {behind : ℕ} → Wrote out next line new behind → Filling new behind (place + passed)
     goes-on w =
         let rest = onwards (place + passed) (length old - length (f .done ++ line)) in
-        let most = line-most (origin + place) (window here) (window-bytes place image bytes) in
         let more = length-append (take passed here) (joined rest) in
         record {
           done = f .done ++ line;
           wrote = f .wrote ▸ w;
-          fits = omega (arith, size, most, reached);
+          fits = omega (arith, size, room, reached);
           inside = omega (arith, passed-within here any, length-drop place image);
           further = omega (arith, f .further);
           lines = append-assoc (f .done) line (printed rest) ∙ ap (λ (rs : List Row). f .done ++ printed rs) (sym split) ∙ f .lines;
           passes = omega (arith, more, passed-bytes here any, ap (λ (rs : List Row). place + length (joined rs)) split, f .passes);
         }
 
-  module _ {out : List ℕ} {next place : ℕ} (f : Filling out next place) (over : (length image ≤ place) ⊎ (length old - next < 58)) where
+  module _ {out : List ℕ} {next place : ℕ} (f : Filling out next place) (over : Over next place) where
     -- no row is left, or no room
-    none-left : (length image ≤ place) ⊎ (length old - next < 58) → onwards place (length old - length (f .done)) ≡ []
+    none-left : Over next place → onwards place (length old - length (f .done)) ≡ []
     none-left (inl end) = page-none (length old - length (f .done)) (origin + place) (drop place image) (omega (arith, length-drop place image))
-    none-left (inr full) = page-full (length old - length (f .done)) (listing (origin + place) (drop place image)) (omega (arith, counted (f .wrote) (f .fits)))
+    none-left (inr (some, full)) = page-full (length old - length (f .done)) (origin + place) (drop place image) (omega (arith, length-drop place image)) (omega (arith, full, counted (f .wrote) (f .fits)))
 
     all : f .done ≡ printed (onwards start (length old))
     all = sym (append-nil (f .done)) ∙ ap (λ (rs : List Row). f .done ++ printed rs) (sym (none-left over)) ∙ f .lines

@@ -2,11 +2,12 @@
 ghost use mathlib.Core.Path.{_≡_};
 ghost use mathlib.Core.List.{_++_};
 ghost use Prim.Native.Nat.{_+_, _-_, _<_, _≤_};
+ghost use lib.Dec.{leb};
 ghost use lib.ListN.{length, drop};
 ghost use Rattle.writer.specs.Wrote.{Wrote};
 ghost use Rattle.image.specs.Places.{window};
 ghost use Rattle.listing.specs.Rows.{lineOf, passedOf, printed, joined};
-ghost use Rattle.listing.specs.Answers.{listed as listedOf, givenBy, leftBy, rowAnswer, rowBytes};
+ghost use Rattle.listing.specs.Answers.{givenBy, leftBy, rowAnswer, rowBytes};
 ghost use Rattle.listing.specs.Page.{pageOf, rowsAnswer, rowsBytes};
 use image::is_outside;
 use image::is_wrong_size;
@@ -15,7 +16,6 @@ use line::passed;
 use line::put_line;
 use listing::Listed;
 use window::decode_at;
-use wording::Written;
 use writer::give;
 
 // What writing rows came to: the place behind their lines, and the bytes of the image that they pass.
@@ -40,16 +40,6 @@ fn put_row(image: &[u8], origin: u16, place: usize, buf: &mut [u8], at: usize) -
     }
 }
 
-// The answer for a line that was written or did not fit.
-fn listed(written: Written, passed: usize) -> Listed
-    ensures { λ r. ⌜ r ≡ listedOf written passed ⌝ }
-{
-    match written {
-        Written::Done(count) => Listed::Done { count, passed },
-        _ => Listed::NoRoom,
-    }
-}
-
 // The same row to the front of `out`. Its line is made in a place of its own, so that nothing is written where it does not fit.
 fn give_row(image: &[u8], origin: u16, place: usize, out: &mut [u8]) -> Listed
     requires { ⌜ place < length (now image) ⌝ }
@@ -59,9 +49,15 @@ fn give_row(image: &[u8], origin: u16, place: usize, out: &mut [u8]) -> Listed
 {
     let mut line = [0u8; LINE_MAX];
     let put = put_row(image, origin, place, &mut line, 0);
-    let next = put.next;
-    let written = give(&line[0..next], out);
-    listed(written, put.passed)
+    let count = put.next;
+    if count <= out.len() {
+        give(&line[0..count], out);
+        return Listed::Done {
+            count,
+            passed: put.passed,
+        };
+    }
+    Listed::NoRoom
 }
 
 // The row at an address of the image, whose first byte stands at `origin`: its line to the front of `out`.
@@ -78,7 +74,21 @@ pub fn row(image: &[u8], origin: u16, address: u16, out: &mut [u8]) -> Listed
     give_row(image, origin, (address - origin) as usize, out)
 }
 
-// The rows from a place on, each while there is room for the longest line.
+// Whether the line of the row at a place has that much room; one that has room for the longest is not made for it.
+fn has_room(image: &[u8], origin: u16, place: usize, room: usize) -> bool
+    requires { ⌜ place < length (now image) ⌝ }
+    requires { ⌜ origin + length (now image) ≤ 65536 ⌝ }
+    ensures { λ b. ⌜ b ≡ leb (length (lineOf (origin + place) (window (drop place (now (image .entry)))))) room ⌝ }
+{
+    if LINE_MAX <= room {
+        return true;
+    }
+    let mut line = [0u8; LINE_MAX];
+    let put = put_row(image, origin, place, &mut line, 0);
+    put.next <= room
+}
+
+// The rows from a place on, as many whole lines as fit.
 fn put_rows(image: &[u8], origin: u16, start: usize, out: &mut [u8]) -> Put
     requires { ⌜ start ≤ length (now image) ⌝ }
     requires { ⌜ origin + length (now image) ≤ 65536 ⌝ }
@@ -88,7 +98,7 @@ fn put_rows(image: &[u8], origin: u16, start: usize, out: &mut [u8]) -> Put
 {
     let mut next = 0;
     let mut place = start;
-    while place < image.len() && LINE_MAX <= out.len() - next {
+    while place < image.len() && has_room(image, origin, place, out.len() - next) {
         let put = put_row(image, origin, place, out, next);
         next = put.next;
         place += put.passed;
@@ -99,7 +109,7 @@ fn put_rows(image: &[u8], origin: u16, start: usize, out: &mut [u8]) -> Put
     }
 }
 
-// The rows from an address on, as many as there is room for: their lines to the front of `out`, one behind the other.
+// The rows from an address on, as many whole lines as fit: their lines to the front of `out`, one behind the other.
 pub fn rows(image: &[u8], origin: u16, address: u16, out: &mut [u8]) -> Listed
     ensures answer { λ r. ⌜ r ≡ rowsAnswer (now (image .entry)) origin address (now (out .entry)) ⌝ }
     ensures bytes { λ _. ⌜ now (out .exit) ≡ rowsBytes (now (image .entry)) origin address (now (out .entry)) ⌝ }
@@ -110,12 +120,13 @@ pub fn rows(image: &[u8], origin: u16, address: u16, out: &mut [u8]) -> Listed
     if is_outside(image, origin, address) {
         return Listed::Nothing;
     }
-    if out.len() < LINE_MAX {
-        return Listed::NoRoom;
+    let place = (address - origin) as usize;
+    if has_room(image, origin, place, out.len()) {
+        let put = put_rows(image, origin, place, out);
+        return Listed::Done {
+            count: put.next,
+            passed: put.passed,
+        };
     }
-    let put = put_rows(image, origin, (address - origin) as usize, out);
-    Listed::Done {
-        count: put.next,
-        passed: put.passed,
-    }
+    Listed::NoRoom
 }

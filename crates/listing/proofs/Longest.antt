@@ -10,7 +10,6 @@ use Rattle.table.specs.declared.Answer.{Answer}
 use Rattle.table.specs.Decode.{decodeOf}
 use Rattle.table.specs.Consequences.{AllBytes, first}
 use Rattle.table.proofs.Pages.{chosen}
-use Rattle.wording.specs.declared.Written.{Written}
 use Rattle.wording.specs.Digits.{hex8, hex16, decimal, digitAt}
 use Rattle.wording.specs.Text.{textOf}
 use Rattle.wording.proofs.Longest.{any-most, drop-bytes}
@@ -18,7 +17,7 @@ use Rattle.line.specs.Line.{decodedLine, shortLine, lineBy}
 use Rattle.listing.specs.declared.Listed.{Listed}
 use Rattle.image.specs.Places.{wrongSize, outside, window, windowAt}
 use Rattle.listing.specs.Rows.{lineOf, passedOf}
-use Rattle.listing.specs.Answers.{countOf, passedOver, listed, givenBy, rowAnswer}
+use Rattle.listing.specs.Answers.{countOf, passedOver, givenBy, rowAnswer}
 use Rattle.listing.proofs.Passed.{passed-most}
 
 digit-most : (n p : ℕ) → length (digitAt n p) ≤ 1
@@ -53,10 +52,10 @@ window-bytes k image bytes = take-bytes 4 (drop k image) (drop-bytes k image byt
 -- nor is a count more, nor are more than four bytes passed
 module _ (a : ℕ) (w out : List ℕ) where
   by-count : length (lineOf a w) ≤ 58 → countOf (givenBy a w out) ≤ 58
-  by-count most = chosen (λ (x : Written). countOf (listed x (passedOf w)) ≤ 58) (leb (length (lineOf a w)) (length out)) _ _ most (omega arith)
+  by-count most = chosen (λ (x : Listed). countOf x ≤ 58) (leb (length (lineOf a w)) (length out)) _ _ most (omega arith)
 
   by-passed : passedOver (givenBy a w out) ≤ 4
-  by-passed = chosen (λ (x : Written). passedOver (listed x (passedOf w)) ≤ 4) (leb (length (lineOf a w)) (length out)) _ _ (passed-most w) (omega arith)
+  by-passed = chosen (λ (x : Listed). passedOver x ≤ 4) (leb (length (lineOf a w)) (length out)) _ _ (passed-most w) (omega arith)
 
 module _ (image : List ℕ) (origin address : ℕ) (out : List ℕ) where
   pub count-most : AllBytes image → countOf (rowAnswer image origin address out) ≤ 58

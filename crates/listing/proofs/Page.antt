@@ -4,31 +4,26 @@ use mathlib.Core.Bool.{Bool, true, false}
 use mathlib.Core.List.{List, [], _∷_, _++_, append-assoc}
 use Prim.Native.Nat.{ℕ, zero, suc, _+_, _-_, _<_, _≤_}
 use native.Mathlib.Omega.{arith}
-use lib.Dec.{ltb, leb}
+use lib.Dec.{leb}
 use lib.ListN.{length, take, drop, length-take, length-drop, length-append}
 use lib.Seq.{drop-drop}
 use borrow.Author.Tests.{leb-true, leb-false, le-leb, lt-leb}
-use Rattle.table.specs.Consequences.{AllBytes}
 use Rattle.table.proofs.Pages.{chosen}
-use Rattle.wording.proofs.Longest.{drop-bytes}
 use Rattle.listing.specs.declared.Listed.{Listed}
-use Rattle.image.specs.Places.{wrongSize, outside, window}
+use Rattle.image.specs.Places.{wrongSize, outside, window, windowAt}
 use Rattle.listing.specs.Rows.{lineOf, passedOf, Row, rowAt, listing, printed, joined}
 use Rattle.listing.specs.Answers.{countOf, passedOver}
 use Rattle.listing.specs.Page.{page, rowsAnswer}
-use Rattle.listing.specs.Consequences.{Every}
 use Rattle.listing.proofs.Passed.{passed-least, passed-within}
-use Rattle.listing.proofs.Listing.{listing-next, every-map, each-answered, bytes-joined}
-use Rattle.listing.proofs.Longest.{line-most, window-bytes}
+use Rattle.listing.proofs.Listing.{listing-next, bytes-joined}
 
--- where there is room for the longest line the first row is written, and the others to what is left
-pub page-next : (room a : ℕ) (s : List ℕ) → 1 ≤ length s → 58 ≤ room → page room (listing a s) ≡ rowAt a s ∷ page (room - length (lineOf a (window s))) (listing (a + passedOf (window s)) (drop (passedOf (window s)) s))
-page-next room a s some enough = ap (page room) (listing-next a s some) ∙ rw (le-leb 58 room enough) refl
+-- where there is room for the first line its row is written, and the others to what is left
+pub page-next : (room a : ℕ) (s : List ℕ) → 1 ≤ length s → length (lineOf a (window s)) ≤ room → page room (listing a s) ≡ rowAt a s ∷ page (room - length (lineOf a (window s))) (listing (a + passedOf (window s)) (drop (passedOf (window s)) s))
+page-next room a s some enough = ap (page room) (listing-next a s some) ∙ rw (le-leb (length (lineOf a (window s))) room enough) refl
 
 -- where there is not, none is
-pub page-full : (room : ℕ) (rs : List Row) → room < 58 → page room rs ≡ []
-page-full room [] small = refl
-page-full room (r ∷ rs) small = rw (lt-leb 58 room small) refl
+pub page-full : (room a : ℕ) (s : List ℕ) → 1 ≤ length s → room < length (lineOf a (window s)) → page room (listing a s) ≡ []
+page-full room a s some small = ap (page room) (listing-next a s some) ∙ rw (lt-leb (length (lineOf a (window s))) room small) refl
 
 -- a page of no bytes
 pub page-none : (room a : ℕ) (s : List ℕ) → length s ≡ 0 → page room (listing a s) ≡ []
@@ -56,18 +51,18 @@ splits-next a s rows some rest =
     let beyond = ap (λ (k : ℕ). printed (listing k (drop n (drop p s)))) onward ∙ ap (λ (l : List ℕ). printed (listing (a + length (joined (rowAt a s ∷ rows))) l)) (drop-drop n p s ∙ ap (λ (k : ℕ). drop k s) (sym size)) in
     ap printed (listing-next a s some) ∙ ap (λ (l : List ℕ). lineOf a (window s) ++ l) (rest ∙ ap (λ (l : List ℕ). printed rows ++ l) beyond) ∙ sym (append-assoc (lineOf a (window s)) (printed rows) _)
 
--- whether there is room for the longest line; `shorter` is the same of fewer bytes
-splits-by : (t : Bool) (room a : ℕ) (s : List ℕ) → leb 58 room ≡ t → 1 ≤ length s → ((room a : ℕ) (l : List ℕ) → length l < length s → Splits a l (page room (listing a l))) → Splits a s (page room (listing a s))
+-- whether there is room for the first line; `shorter` is the same of fewer bytes
+splits-by : (t : Bool) (room a : ℕ) (s : List ℕ) → leb (length (lineOf a (window s))) room ≡ t → 1 ≤ length s → ((room a : ℕ) (l : List ℕ) → length l < length s → Splits a l (page room (listing a l))) → Splits a s (page room (listing a s))
 splits-by true room a s t some shorter =
     let p = passedOf (window s) in
     let left = room - length (lineOf a (window s)) in
     let rest = shorter left (a + p) (drop p s) (omega (arith, length-drop p s, passed-least (window s))) in
-    subst (Splits a s) (sym (page-next room a s some (leb-true 58 room t))) (splits-next a s (page left (listing (a + p) (drop p s))) some rest)
-splits-by false room a s t some shorter = subst (Splits a s) (sym (page-full room (listing a s) (leb-false 58 room t))) (splits-none a s)
+    subst (Splits a s) (sym (page-next room a s some (leb-true (length (lineOf a (window s))) room t))) (splits-next a s (page left (listing (a + p) (drop p s))) some rest)
+splits-by false room a s t some shorter = subst (Splits a s) (sym (page-full room a s some (leb-false (length (lineOf a (window s))) room t))) (splits-none a s)
 
 splits-at : (room a : ℕ) (s : List ℕ) → ((room a : ℕ) (l : List ℕ) → length l < length s → Splits a l (page room (listing a l))) → Splits a s (page room (listing a s))
 splits-at room a [] shorter = subst (Splits a []) (sym (page-none room a [] refl)) (splits-none a [])
-splits-at room a (b ∷ s) shorter = splits-by (leb 58 room) room a (b ∷ s) refl (omega arith) shorter
+splits-at room a (b ∷ s) shorter = splits-by (leb (length (lineOf a (window (b ∷ s)))) room) room a (b ∷ s) refl (omega arith) shorter
 
 splits : (n room a : ℕ) (s : List ℕ) → length s < n → Splits a s (page room (listing a s))
 splits zero room a s enough = absurd (omega arith)
@@ -77,39 +72,35 @@ splits (suc n) room a s enough = splits-at room a s (λ room a l fewer. splits n
 pub page-printed : (room a : ℕ) (s : List ℕ) → Splits a s (page room (listing a s))
 page-printed room a s = splits (suc (length s)) room a s (omega arith)
 
--- each line of a listing has at most 58 bytes
-lines-most : (a : ℕ) (s : List ℕ) → AllBytes s → Every (λ (r : Row). length (r .line) ≤ 58) (listing a s)
-lines-most a s bytes =
-    every-map
-    (λ r x. subst (λ (q : Row). length (q .line) ≤ 58) (sym (x .answer)) (line-most (a + x .place) (window (drop (x .place) s)) (window-bytes (x .place) s bytes)))
-    (listing a s) (each-answered a s)
+-- a page's lines fit
+fits-by : (t : Bool) (room : ℕ) (r : Row) (rs : List Row) → leb (length (r .line)) room ≡ t → length (printed (page (room - length (r .line)) rs)) ≤ room - length (r .line) → length (printed (page room (r ∷ rs))) ≤ room
+fits-by true room r rs t rest = rw t (omega (arith, leb-true (length (r .line)) room t, rest, length-append (r .line) (printed (page (room - length (r .line)) rs))))
+fits-by false room r rs t rest = rw t (omega arith)
 
--- so a page's lines fit
-fits-by : (t : Bool) (room : ℕ) (r : Row) (rs : List Row) → leb 58 room ≡ t → length (r .line) ≤ 58 → length (printed (page (room - length (r .line)) rs)) ≤ room - length (r .line) → length (printed (page room (r ∷ rs))) ≤ room
-fits-by true room r rs t most rest = rw t (omega (arith, leb-true 58 room t, most, rest, length-append (r .line) (printed (page (room - length (r .line)) rs))))
-fits-by false room r rs t most rest = rw t (omega arith)
-
-page-fits : (rs : List Row) (room : ℕ) → Every (λ (r : Row). length (r .line) ≤ 58) rs → length (printed (page room rs)) ≤ room
-page-fits [] room most = omega arith
-page-fits (r ∷ rs) room most = fits-by (leb 58 room) room r rs refl (most .0) (page-fits rs (room - length (r .line)) (most .1))
+page-fits : (rs : List Row) (room : ℕ) → length (printed (page room rs)) ≤ room
+page-fits [] room = omega arith
+page-fits (r ∷ rs) room = fits-by (leb (length (r .line)) room) room r rs refl (page-fits rs (room - length (r .line)))
 
 -- and it passes no more than there is
-passes-by : (t : Bool) (room : ℕ) (r : Row) (rs : List Row) → leb 58 room ≡ t → length (joined (page (room - length (r .line)) rs)) ≤ length (joined rs) → length (joined (page room (r ∷ rs))) ≤ length (joined (r ∷ rs))
+passes-by : (t : Bool) (room : ℕ) (r : Row) (rs : List Row) → leb (length (r .line)) room ≡ t → length (joined (page (room - length (r .line)) rs)) ≤ length (joined rs) → length (joined (page room (r ∷ rs))) ≤ length (joined (r ∷ rs))
 passes-by true room r rs t rest = rw t (omega (arith, rest, length-append (r .bytes) (joined rs), length-append (r .bytes) (joined (page (room - length (r .line)) rs))))
 passes-by false room r rs t rest = rw t (omega arith)
 
 page-passes : (rs : List Row) (room : ℕ) → length (joined (page room rs)) ≤ length (joined rs)
 page-passes [] room = omega arith
-page-passes (r ∷ rs) room = passes-by (leb 58 room) room r rs refl (page-passes rs (room - length (r .line)))
+page-passes (r ∷ rs) room = passes-by (leb (length (r .line)) room) room r rs refl (page-passes rs (room - length (r .line)))
 
 -- what is answered: a count that fits, and no more bytes than the image has from the address on
 module _ (image : List ℕ) (origin address : ℕ) (out : List ℕ) where
-  pub rows-count : AllBytes image → countOf (rowsAnswer image origin address out) ≤ length out
-  rows-count bytes =
+  abbrev fits : Bool
+  fits = leb (length (lineOf address (windowAt image origin address))) (length out)
+
+  pub rows-count : countOf (rowsAnswer image origin address out) ≤ length out
+  rows-count =
       let s = drop (address - origin) image in
       chosen (λ (x : Listed). countOf x ≤ length out) (wrongSize image origin) _ _ (omega arith)
       (chosen (λ (x : Listed). countOf x ≤ length out) (outside image origin address) _ _ (omega arith)
-      (chosen (λ (x : Listed). countOf x ≤ length out) (ltb (length out) 58) _ _ (omega arith) (page-fits (listing address s) (length out) (lines-most address s (drop-bytes (address - origin) image bytes)))))
+      (chosen (λ (x : Listed). countOf x ≤ length out) fits _ _ (page-fits (listing address s) (length out)) (omega arith)))
 
   pub rows-passed : passedOver (rowsAnswer image origin address out) ≤ length image - (address - origin)
   rows-passed =
@@ -117,4 +108,4 @@ module _ (image : List ℕ) (origin address : ℕ) (out : List ℕ) where
       let most : length (joined (page (length out) (listing address s))) ≤ length image - (address - origin) = omega (arith, page-passes (listing address s) (length out), ap length (bytes-joined address s), length-drop (address - origin) image) in
       chosen (λ (x : Listed). passedOver x ≤ length image - (address - origin)) (wrongSize image origin) _ _ (omega arith)
       (chosen (λ (x : Listed). passedOver x ≤ length image - (address - origin)) (outside image origin address) _ _ (omega arith)
-      (chosen (λ (x : Listed). passedOver x ≤ length image - (address - origin)) (ltb (length out) 58) _ _ (omega arith) most))
+      (chosen (λ (x : Listed). passedOver x ≤ length image - (address - origin)) fits _ _ most (omega arith)))

@@ -1,9 +1,9 @@
 -- What listing a row answers, and the lent bytes as it leaves them. Definitions only.
 use Prim.Native.Nat.{ℕ}
 use mathlib.Core.Bool.{cond}
-use mathlib.Core.List.{List}
-use Rattle.wording.specs.declared.Written.{Written}
-use Rattle.wording.specs.Answers.{fitted, leaves}
+use mathlib.Core.List.{List, _++_}
+use lib.Dec.{leb}
+use lib.ListN.{length, drop}
 use Rattle.listing.specs.declared.Listed.{Listed}
 use Rattle.image.specs.Places.{wrongSize, outside, windowAt}
 use Rattle.listing.specs.Rows.{lineOf, passedOf}
@@ -29,21 +29,20 @@ passedOver Listed.ImageSize = 0
 passedOver Listed.Nothing = 0
 passedOver Listed.NoRoom = 0
 
--- a line that was written, or, 4, not: p bytes are passed
-abbrev pub listed : Written → ℕ → Listed
-listed (Written.Done n) p = Listed.Done n p
-listed Written.Nothing p = Listed.NoRoom
-listed (Written.Short k) p = Listed.NoRoom
-listed Written.Long p = Listed.NoRoom
-listed Written.NoRoom p = Listed.NoRoom
-listed Written.BadChoice p = Listed.NoRoom
+-- a line of a row that passes p bytes, to lent bytes: Done where it is no longer than they are, else NoRoom
+abbrev pub given : List ℕ → ℕ → List ℕ → Listed
+given line p out = cond (leb (length line) (length out)) (Listed.Done (length line) p) Listed.NoRoom
 
--- a row that looks at the bytes w, to lent bytes
+-- and the lent bytes then: the line at the front and the bytes behind it as they were, or all as they were
+abbrev pub left : List ℕ → List ℕ → List ℕ
+left line out = cond (leb (length line) (length out)) (line ++ drop (length line) out) out
+
+-- the same of a row that looks at the bytes w
 abbrev pub givenBy : ℕ → List ℕ → List ℕ → Listed
-givenBy a w out = listed (fitted (lineOf a w) out) (passedOf w)
+givenBy a w out = given (lineOf a w) (passedOf w) out
 
 abbrev pub leftBy : ℕ → List ℕ → List ℕ → List ℕ
-leftBy a w out = leaves (fitted (lineOf a w) out) (lineOf a w) out
+leftBy a w out = left (lineOf a w) out
 
 -- the answer: 5, 1 and 4 in this order
 abbrev pub rowAnswer : List ℕ → ℕ → ℕ → List ℕ → Listed

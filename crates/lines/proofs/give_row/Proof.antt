@@ -1,14 +1,14 @@
 -- `give_row` meets its contract: the line has room for the whole row. Assumes nothing.
-use mathlib.Core.Path.{_≡_, ap, _∙_}
+use mathlib.Core.Path.{_≡_, refl, ap, _∙_}
 use mathlib.Core.List.{List}
 use Prim.Native.Nat.{ℕ, _+_, _-_, _≤_}
 use native.Mathlib.Omega.{arith}
 use lib.ListN.{length, take, drop}
 use denote.Ref.{now}
+use borrow.Author.Tests.{le-leb, lt-leb}
 use Rattle.writer.proofs.Laws.{front, counted, size}
 use Rattle.image.specs.Places.{window}
 use Rattle.listing.specs.Rows.{lineOf}
-use Rattle.listing.specs.Answers.{listed}
 use Rattle.listing.proofs.Longest.{line-most, window-bytes}
 use borrow.Author.Needs.{needs}
 use Rattle.lines.proofs.give_row.Statement.{statement}
@@ -29,14 +29,26 @@ part k =
     let e : n - 0 ≡ n = omega arith in
     ap (λ (m : ℕ). take m (k .put-row .last .1 .1 .1 .0)) e ∙ front (k .put-row .ensures .0) (fits k)
 
+-- the place reached is the line's length
+reached : (k : tie.After-put-row) → k .put-row .result .next ≡ length (made k)
+reached k = counted (k .put-row .ensures .0) (fits k)
+
 part-give-end : tie.Need-part-give-end
-part-give-end c = omega (arith, counted (c .before .before .put-row .ensures .0) (fits (c .before .before)), fits (c .before .before), size (c .before .before .put-row .ensures .0))
+part-give-end c = let k = c .before .before .before in omega (arith, reached k, fits k, size (k .put-row .ensures .0))
 
 returns : tie.Need-returns
 returns c =
-    let given = rw (part (c .before .before .before .before .before .before .before .before)) at (c .before .before .before .give .ensures) in
-    let answer : c .listed .result ≡ listed (c .before .before .before .give .result) (c .before .before .before .before .before .before .before .before .put-row .result .passed) = c .listed .ensures in
-    (rw (given .0, c .before .before .before .before .before .before .before .before .put-row .ensures .1) at answer, given .1)
+    let k = c .before .before .before .before .before .before .before .before in
+    let s = k .before .before .before .before .args in
+    let room = le-leb (length (made k)) (length (now (s .out))) (omega (arith, reached k)) in
+    let written = rw (part k) at (c .before .before .give .ensures .1) in
+    rw room (rw (reached k, k .put-row .ensures .1) refl, rw room at written)
+
+returns-2 : tie.Need-returns-2
+returns-2 c =
+    let k = c .before .before in
+    let s = k .before .before .before .before .args in
+    rw (lt-leb (length (made k)) (length (now (s .out))) (omega (arith, reached k))) (refl, refl)
 
 pub give-row-spec : {M : Type 1} → statement M
 give-row-spec =
@@ -48,6 +60,6 @@ give-row-spec =
     (λ c. search needs)
     part-give-end
     (λ c κs. search needs)
-    (λ c κs. search needs)
     (λ c. search needs)
-    returns)
+    returns
+    returns-2)

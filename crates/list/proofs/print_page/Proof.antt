@@ -9,7 +9,7 @@ use Rattle.list.proofs.print_page.Tie as tie
 part-is-written-end : tie.Need-part-is-written-end
 part-is-written-end c =
     let s = c .before .before .before .before .before .before .before .before .before .before .args in
-    let most = rows-count (now (s .image)) 0 (s .place) (now (s .page)) (λ j. c .before .before .before .before .before .before .before .before .before .shared-slice-known .given j .fits) in
+    let most = rows-count (now (s .image)) 0 (s .place) (now (s .page)) in
     let count = rw (← c .before .before .before .before .before .before .rows .ensures .0, c .before .before .listed .given .1) at most in
     omega (arith, count, c .before .before .before .before .before .page .given)
 
