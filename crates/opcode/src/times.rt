@@ -79,7 +79,7 @@ pub struct Span {
 }
 
 // Those of a row, by its instruction, whether its first operand is a condition, and the sum of its six places.
-pub fn span_by(ins: Instruction, conditional: bool, sum: u16) -> Span
+fn span_by(ins: Instruction, conditional: bool, sum: u16) -> Span
     requires { ⌜ sum ≤ 1530 ⌝ }
     ensures { λ r. ⌜ r ≡ spanBy ins conditional sum ⌝ }
 {

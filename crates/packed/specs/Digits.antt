@@ -6,6 +6,6 @@ use lib.Dec.{ltb}
 unfoldable pub lesserOf : ℕ → ℕ → ℕ
 lesserOf n most = cond (ltb n most) n most
 
--- the hex digit of n at a place, counted from its end
+-- the hex digit of n at a place, counted from its end, sixteen being the first again
 unfoldable pub digitAt : ℕ → ℕ → ℕ
-digitAt n place = n / 2 ^ (place * 4) % 16
+digitAt n place = n / 2 ^ (place % 16 * 4) % 16

@@ -1,6 +1,5 @@
 // The lesser of two numbers, and a digit of one.
 ghost use mathlib.Core.Path.{_≡_};
-ghost use Prim.Native.Nat.{_<_};
 ghost use Rattle.packed.specs.Digits.{lesserOf, digitAt};
 
 // The lesser of two.
@@ -10,10 +9,9 @@ pub fn lesser(n: u8, most: u8) -> u8
     if n < most { n } else { most }
 }
 
-// The hex digit of a number at a place, counted from its end.
+// The hex digit of a number at a place, counted from its end, sixteen being the first again.
 pub fn digit(n: u64, place: u8) -> u8
-    requires { ⌜ place < 16 ⌝ }
     ensures { λ d. ⌜ d ≡ digitAt n place ⌝ }
 {
-    ((n >> (place * 4)) % 16) as u8
+    ((n >> (place % 16 * 4)) % 16) as u8
 }
