@@ -135,19 +135,24 @@ mod tests {
         assert_eq!((tally.calls, tally.differing), (5, 0));
     }
 
+    /// Counts what is asked, in no room, where what is found is what is expected.
+    fn add_met(tally: &mut Tally, asked: &Asked) {
+        let call = Call {
+            asked,
+            room: 0,
+            before: filled(0),
+        };
+        let expected = expected(&call, &said(asked));
+        assert_eq!(tally.add(&call, expected, expected), None);
+    }
+
     /// An input of bytes is counted by the number for its missing ones, in any room.
     #[test]
     fn counted_by_missing_bytes() {
         let mut tally = Tally::default();
         for ins in [&[0xDD][..], &[0xED], &[0xED, 0x43], &[0x00], &[]] {
             let asked = Asked::Bytes(Function::Record, ins.to_vec());
-            let call = Call {
-                asked: &asked,
-                room: 0,
-                before: filled(0),
-            };
-            let expected = expected(&call, &said(&asked));
-            assert_eq!(tally.add(&call, expected, expected), None);
+            add_met(&mut tally, &asked);
         }
         assert_eq!(
             tally.counts(),
@@ -160,13 +165,7 @@ mod tests {
     fn counted_by_choice() {
         let mut tally = Tally::default();
         let asked = Asked::Bytes(Function::Text(8), vec![0xDD]);
-        let call = Call {
-            asked: &asked,
-            room: 0,
-            before: filled(0),
-        };
-        let expected = expected(&call, &said(&asked));
-        assert_eq!(tally.add(&call, expected, expected), None);
+        add_met(&mut tally, &asked);
         assert_eq!(tally.counts(), "26 BadChoice: 1");
     }
 
