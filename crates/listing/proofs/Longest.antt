@@ -16,7 +16,7 @@ use Rattle.wording.proofs.Longest.{any-most, drop-bytes}
 use Rattle.line.specs.Line.{decodedLine, shortLine, lineBy}
 use Rattle.listing.specs.declared.Listed.{Listed}
 use Rattle.image.specs.Places.{wrongSize, outside, window, windowAt}
-use Rattle.listing.specs.Rows.{lineOf, passedOf}
+use Rattle.listing.specs.Rows.{lineOf}
 use Rattle.listing.specs.Answers.{countOf, passedOver, givenBy, rowAnswer}
 use Rattle.listing.proofs.Passed.{passed-most}
 

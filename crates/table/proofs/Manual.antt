@@ -1,12 +1,12 @@
 -- UM0080's rows behind DD and FD are the original's, but for the order of the cycles at four codes; and which codes they are.
 -- Assumes nothing.
 use mathlib.Core.Path.{_≡_, refl}
-use mathlib.Core.Bool.{Bool, false, not, _&&_, _||_}
-use mathlib.Core.List.{List, map}
+use mathlib.Core.Bool.{false, not, _&&_, _||_}
+use mathlib.Core.List.{map}
 use Prim.Native.Nat.{ℕ, _%_}
 use lib.Dec.{eqb}
 use lib.ListN.{getD}
-use Rattle.table.specs.Row.{Index, ix, iy, Row, gap}
+use Rattle.table.specs.Row.{Index, Row, gap}
 use Rattle.table.specs.Departures.{late}
 use Rattle.table.specs.Plain.{plain}
 use Rattle.table.specs.Cb.{cb}

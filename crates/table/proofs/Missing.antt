@@ -1,13 +1,12 @@
 -- The number that a Short answer carries is the fewest bytes that, for some choice of them, would make the decode succeed.
 -- It is proved of any reading that keeps to `Foretells`, and of the original's.
 -- Assumes nothing.
-use mathlib.Core.Path.{_≡_, refl, sym, ap, subst, _∙_}
-use mathlib.Core.Logic.{⊎-elim}
-use mathlib.Core.Bool.{Bool, true, false, cond, _&&_, _||_}
+use mathlib.Core.Path.{_≡_, refl, sym, ap, subst}
+use mathlib.Core.Bool.{Bool, true, false}
 use mathlib.Core.List.{List, [], _∷_, _++_}
-use Prim.Native.Nat.{ℕ, zero, suc, _+_, _-_, _<_, _≤_}
+use Prim.Native.Nat.{ℕ, zero, suc, _+_, _-_, _≤_}
 use native.Mathlib.Omega.{arith}
-use lib.Dec.{T, eqb, ltb, ltb→lt}
+use lib.Dec.{eqb, ltb, ltb→lt}
 use borrow.Author.Tests.{eqb-true, ne-eqb}
 use lib.ListN.{length, getD, length-append}
 use Rattle.table.specs.declared.Answer.{Answer}
@@ -17,12 +16,12 @@ use Rattle.table.specs.Departures.{needed}
 use Rattle.table.specs.Plain.{plain}
 use Rattle.table.specs.Cb.{cb}
 use Rattle.table.specs.Ed.{ed}
-use Rattle.table.specs.Decode.{numberOf, missingOf, isPrefix, pageRow, rowOf, neededOf, short, Reading, decodeBy, rust, decodeOf}
+use Rattle.table.specs.Decode.{numberOf, missingOf, isPrefix, pageRow, rowOf, neededOf, short, Reading, rust, decodeOf}
 use Rattle.table.specs.Consequences.{AllBytes, Below, Completion, Fewest}
 use Rattle.table.proofs.Pages.{at-code}
 use Rattle.table.proofs.Done.{decides, decided, undecided}
 use Rattle.table.proofs.Sizes.{needed-at-most}
-use Rattle.table.proofs.Answers.{prefixed, page-row, two, cb-two, ed-two, short-below}
+use Rattle.table.proofs.Answers.{page-row, two, cb-two, ed-two, short-below}
 
 -- how many bytes are needed is known from the first two on; of a byte alone, no second one makes it less, and 44 makes it no more
 pub record Foretells (r : Reading) : Type 0 where

@@ -19,7 +19,7 @@ use Rattle.table.specs.Departures.{needed, ed-behind}
 use Rattle.table.specs.Plain.{plain}
 use Rattle.table.specs.Ed.{ed}
 use Rattle.table.specs.Prefix.{prefixRow, behindRow}
-use Rattle.table.specs.Decode.{isPrefix, pageRow, rowOf, operandBytes, recordOf, four, edAlone, neededOf, refused, short, done, decodeOf}
+use Rattle.table.specs.Decode.{isPrefix, pageRow, rowOf, operandBytes, recordOf, four, neededOf, refused, short, done, decodeOf}
 use Rattle.table.specs.Consequences.{values, AllBytes, first}
 use Rattle.table.specs.Steps.{untimed, behind, named, step, reading, filled}
 use Rattle.table.proofs.Upto.{agree}

@@ -1,5 +1,5 @@
 -- `has_room` meets its contract: no line is longer than 58 bytes, and one that is made has its own length. Assumes nothing.
-use mathlib.Core.Path.{_≡_, sym, ap}
+use mathlib.Core.Path.{sym, ap}
 use mathlib.Core.List.{List}
 use Prim.Native.Nat.{ℕ, _+_, _≤_}
 use native.Mathlib.Omega.{arith}

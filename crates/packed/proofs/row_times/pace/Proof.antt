@@ -1,7 +1,5 @@
 -- `pace` meets its contract, by its callees'. Assumes nothing.
-use native.Mathlib.Omega.{arith}
 use borrow.Author.Needs.{needs}
-use Rattle.packed.specs.Digits.{digitAt}
 use Rattle.packed.specs.Paces.{paceDigit}
 use Rattle.packed.proofs.row_times.pace.Statement.{statement}
 use Rattle.packed.proofs.row_times.pace.Tie as tie

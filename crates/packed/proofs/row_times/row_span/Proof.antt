@@ -1,5 +1,4 @@
 -- `row_span` meets its contract: what the digits say is what the instruction says. Assumes nothing.
-use mathlib.Core.Path.{refl, _∙_}
 use Prim.Native.Nat.{_/_, _%_}
 use native.Mathlib.Omega.{arith}
 use lib.Dec.{eqb}

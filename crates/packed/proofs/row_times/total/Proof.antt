@@ -1,10 +1,9 @@
 -- `total` meets its contract: six digits, two at a time. Assumes nothing.
 use mathlib.Core.Path.{_≡_}
-use Prim.Native.Nat.{ℕ, _+_, _<_, _≤_, _/_, _%_}
+use Prim.Native.Nat.{ℕ, _+_}
 use native.Mathlib.Omega.{arith}
 use borrow.Author.Needs.{needs}
 use Rattle.opcode.specs.Record.{sum}
-use Rattle.packed.specs.Packed.{statesFrom}
 use Rattle.packed.proofs.row_times.total.Statement.{statement}
 use Rattle.packed.proofs.row_times.total.Tie as tie
 
