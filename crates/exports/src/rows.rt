@@ -1,6 +1,6 @@
 // The rows of an image.
 ghost use mathlib.Core.Path.{_≡_};
-ghost use Rattle.listing.specs.Answers.{numberOf, countOf, passedOver, rowAnswer, rowBytes};
+ghost use Rattle.listing.specs.Answers.{outcome, rowOutcome};
 use answers::rows::tell;
 use rom::row;
 
@@ -15,10 +15,7 @@ pub extern "C" fn z80_row(
     count: &mut u32,
     passed: &mut u32,
 ) -> u8
-    ensures number { λ n. ⌜ n ≡ numberOf (rowAnswer (now (image .entry)) origin address (now (out .entry))) ⌝ }
-    ensures counted { λ _. ⌜ now (count .exit) ≡ countOf (rowAnswer (now (image .entry)) origin address (now (out .entry))) ⌝ }
-    ensures passed { λ _. ⌜ now (passed .exit) ≡ passedOver (rowAnswer (now (image .entry)) origin address (now (out .entry))) ⌝ }
-    ensures bytes { λ _. ⌜ now (out .exit) ≡ rowBytes (now (image .entry)) origin address (now (out .entry)) ⌝ }
+    ensures { λ n. ⌜ outcome n (now (count .exit)) (now (passed .exit)) (now (out .exit)) ≡ rowOutcome (now (image .entry)) origin address (now (out .entry)) ⌝ }
 {
     let listed = row(image, origin, address, out);
     let told = tell(listed);

@@ -1,7 +1,7 @@
 // The text of a row.
 ghost use mathlib.Core.Path.{_≡_};
 ghost use Rattle.table.specs.Decode.{decodeOf};
-ghost use Rattle.wording.specs.Answers.{numberOf, countOf, missingOf, textAnswer, textBytes};
+ghost use Rattle.wording.specs.Answers.{outcome, textOutcome};
 use answers::texts::tell;
 use text::text;
 
@@ -15,10 +15,7 @@ pub extern "C" fn z80_text(
     count: &mut u32,
     missing: &mut u32,
 ) -> u8
-    ensures number { λ n. ⌜ n ≡ numberOf (textAnswer choice (decodeOf (now (ins .entry))) (now (out .entry))) ⌝ }
-    ensures counted { λ _. ⌜ now (count .exit) ≡ countOf (textAnswer choice (decodeOf (now (ins .entry))) (now (out .entry))) ⌝ }
-    ensures missing { λ _. ⌜ now (missing .exit) ≡ missingOf (textAnswer choice (decodeOf (now (ins .entry))) (now (out .entry))) ⌝ }
-    ensures bytes { λ _. ⌜ now (out .exit) ≡ textBytes choice (decodeOf (now (ins .entry))) (now (out .entry)) ⌝ }
+    ensures { λ n. ⌜ outcome n (now (count .exit)) (now (missing .exit)) (now (out .exit)) ≡ textOutcome choice (decodeOf (now (ins .entry))) (now (out .entry)) ⌝ }
 {
     let written = text(choice, ins, out);
     let told = tell(written);

@@ -10,7 +10,7 @@ use Rattle.opcode.specs.declared.registers.Reg16.{Reg16}
 use Rattle.opcode.specs.declared.record.OpCode.{OpCode}
 use Rattle.opcode.specs.declared.timing.Timing.{Timing}
 use Rattle.opcode.specs.declared.timing.Edited.{Edited}
-use Rattle.opcode.specs.Timing.{filled, listed, no, yes, inserted, mayInsert, insertOf}
+use Rattle.opcode.specs.Timing.{listed, no, yes, inserted, mayInsert, insertOf}
 use Rattle.table.specs.Row.{Index, ix, iy}
 use Rattle.table.specs.Steps.{isImm8, replaceAddr, changed, timing, withAddr}
 use Rattle.four_bytes.specs.Replaced.{addrRecord, lengthened, loaded}
@@ -52,7 +52,7 @@ byte-kept i d (Place.Of Operand.IgnoreIO) = refl
 -- an insert leaves the operands, whatever its test says
 module _ (o : OpCode) (pos : ℕ) (t : Timing) where
   abbrev tested : Bool → OpCode → Edited
-  tested b r = cond b (yes r (inserted (filled r) pos (listed t)) (r .mcycles .0 + t .mcycles .0)) (no r)
+  tested b r = cond b (yes r (inserted (r .tstates) pos (listed t)) (r .mcycles .0 + t .mcycles .0)) (no r)
 
   second-kept : insertOf o pos t .rec .op2 ≡ o .op2
   unfolding insertOf

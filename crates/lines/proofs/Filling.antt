@@ -1,17 +1,20 @@
 -- Rows written one behind the other: what holds before each, and when no more are. Assumes nothing.
-use mathlib.Core.Path.{_≡_, sym, ap, _∙_}
+use mathlib.Core.Path.{_≡_, refl, sym, ap, subst, _∙_}
+use mathlib.Core.Bool.{Bool, true, false}
 use mathlib.Core.Logic.{_⊎_, inl, inr}
 use mathlib.Core.List.{List, [], _∷_, _++_, append-assoc, append-nil}
 use Prim.Native.Nat.{ℕ, _+_, _-_, _<_, _≤_}
 use native.Mathlib.Omega.{arith}
+use lib.Dec.{leb}
 use lib.ListN.{length, take, drop, length-append, length-drop}
 use lib.Seq.{drop-drop}
+use borrow.Author.Tests.{leb-true, leb-false}
 use Rattle.writer.specs.Wrote.{Wrote}
 use Rattle.writer.proofs.Laws.{_▸_, none, counted, whole}
 use Rattle.image.specs.Places.{window}
 use Rattle.listing.specs.Rows.{lineOf, passedOf, Row, rowAt, listing, printed, joined}
 use Rattle.listing.specs.Page.{page}
-use Rattle.listing.proofs.Passed.{passed-within}
+use Rattle.listing.proofs.Passed.{passed-least, passed-within}
 use Rattle.listing.proofs.Page.{page-next, page-full, page-none, passed-bytes}
 
 module _ (image : List ℕ) (origin start : ℕ) (old : List ℕ) where
@@ -75,8 +78,8 @@ module _ (image : List ℕ) (origin start : ℕ) (old : List ℕ) where
         ∙ ap (λ (a : ℕ). rowAt (origin + place) here ∷ page (length old - length (f .done ++ line)) (listing a (drop passed here))) address
         ∙ ap (λ (l : List ℕ). rowAt (origin + place) here ∷ page (length old - length (f .done ++ line)) (listing (origin + (place + passed)) l)) (drop-drop passed place image)
 
-    pub goes-on : {new : List ℕ} {behind : ℕ} → Wrote out next line new behind → Filling new behind (place + passed)
-    goes-on w =
+    behind-it : {new : List ℕ} {behind : ℕ} → Wrote out next line new behind → Filling new behind (place + passed)
+    behind-it w =
         let rest = onwards (place + passed) (length old - length (f .done ++ line)) in
         let more = length-append (take passed here) (joined rest) in
         record {
@@ -88,6 +91,9 @@ module _ (image : List ℕ) (origin start : ℕ) (old : List ℕ) where
           lines = append-assoc (f .done) line (printed rest) ∙ ap (λ (rs : List Row). f .done ++ printed rs) (sym split) ∙ f .lines;
           passes = omega (arith, more, passed-bytes here any, ap (λ (rs : List Row). place + length (joined rs)) split, f .passes);
         }
+
+    pub goes-on : {new : List ℕ} {behind p : ℕ} → p ≡ passed → Wrote out next line new behind → Filling new behind (place + p)
+    goes-on {new = l} {behind = j} e w = subst (λ (n : ℕ). Filling l j (place + n)) (sym e) (behind-it w)
 
   module _ {out : List ℕ} {next place : ℕ} (f : Filling out next place) (over : Over next place) where
     -- no row is left, or no room
@@ -106,3 +112,37 @@ module _ (image : List ℕ) (origin start : ℕ) (old : List ℕ) where
 
     pub ends-bytes : out ≡ printed (onwards start (length old)) ++ drop (length (printed (onwards start (length old)))) old
     ends-bytes = whole (f .wrote) (f .fits) ∙ ap (λ (l : List ℕ). l ++ drop (length l) old) all
+
+  -- whether the first line fits, by the bytes that the page passes
+  module _ (some : start < length image) where
+    abbrev front : List ℕ
+    front = drop start image
+
+    abbrev first : ℕ
+    first = length (lineOf (origin + start) (window front))
+
+    front-any : 1 ≤ length front
+    front-any = omega (arith, length-drop start image)
+
+    pub full : leb first (length old) ≡ false → onwards start (length old) ≡ []
+    full e = page-full (length old) (origin + start) front front-any (leb-false first (length old) e)
+
+    passes-some : first ≤ length old → 1 ≤ length (joined (onwards start (length old)))
+    passes-some room =
+        let p = passedOf (window front) in
+        let rest = page (length old - first) (listing (origin + start + p) (drop p front)) in
+        omega (arith, ap (λ (rs : List Row). length (joined rs)) (page-next (length old) (origin + start) front front-any room), length-append (take p front) (joined rest), passed-bytes front front-any, passed-least (window front))
+
+    none-by : (t : Bool) → leb first (length old) ≡ t → length (joined (onwards start (length old))) ≡ 0 → t ≡ false
+    none-by true e none = absurd (omega (arith, passes-some (leb-true first (length old) e), none))
+    none-by false e none = refl
+
+    pub none-passed : length (joined (onwards start (length old))) ≡ 0 → leb first (length old) ≡ false
+    none-passed none = none-by (leb first (length old)) refl none
+
+    some-by : (t : Bool) → leb first (length old) ≡ t → 1 ≤ length (joined (onwards start (length old))) → t ≡ true
+    some-by true e any = refl
+    some-by false e any = absurd (omega (arith, ap (λ (rs : List Row). length (joined rs)) (full e), any))
+
+    pub some-passed : 1 ≤ length (joined (onwards start (length old))) → leb first (length old) ≡ true
+    some-passed any = some-by (leb first (length old)) refl any

@@ -2,6 +2,7 @@
 use mathlib.Core.Path.{_≡_, refl}
 use Prim.Native.Nat.{ℕ, zero, suc, _-_, _≤_}
 use native.Mathlib.Omega.{arith}
+use mathlib.Core.Bool.{Bool}
 use mathlib.Core.List.{List, [], _∷_}
 use lib.Dec.{leb}
 use lib.ListN.{length, take, drop, length-append}
@@ -14,10 +15,9 @@ use Rattle.wording.specs.Digits.{hex8, hex16, decimal, digitAt}
 use Rattle.wording.specs.Text.{textOf}
 use Rattle.wording.proofs.Longest.{any-most, drop-bytes}
 use Rattle.line.specs.Line.{decodedLine, shortLine, lineBy}
-use Rattle.listing.specs.declared.Listed.{Listed}
 use Rattle.image.specs.Places.{wrongSize, outside, window, windowAt}
 use Rattle.listing.specs.Rows.{lineOf}
-use Rattle.listing.specs.Answers.{countOf, passedOver, givenBy, rowAnswer}
+use Rattle.listing.specs.Answers.{Outcome, rowOutcome}
 use Rattle.listing.proofs.Passed.{passed-most}
 
 digit-most : (n p : ℕ) → length (digitAt n p) ≤ 1
@@ -50,22 +50,19 @@ pub window-bytes : (k : ℕ) (image : List ℕ) → AllBytes image → AllBytes 
 window-bytes k image bytes = take-bytes 4 (drop k image) (drop-bytes k image bytes)
 
 -- nor is a count more, nor are more than four bytes passed
-module _ (a : ℕ) (w out : List ℕ) where
-  by-count : length (lineOf a w) ≤ 58 → countOf (givenBy a w out) ≤ 58
-  by-count most = chosen (λ (x : Listed). countOf x ≤ 58) (leb (length (lineOf a w)) (length out)) _ _ most (omega arith)
-
-  by-passed : passedOver (givenBy a w out) ≤ 4
-  by-passed = chosen (λ (x : Listed). passedOver x ≤ 4) (leb (length (lineOf a w)) (length out)) _ _ (passed-most w) (omega arith)
-
 module _ (image : List ℕ) (origin address : ℕ) (out : List ℕ) where
-  pub count-most : AllBytes image → countOf (rowAnswer image origin address out) ≤ 58
-  count-most bytes =
-      let w = windowAt image origin address in
-      let most = line-most address w (window-bytes (address - origin) image bytes) in
-      chosen (λ (x : Listed). countOf x ≤ 58) (wrongSize image origin) _ _ (omega arith)
-      (chosen (λ (x : Listed). countOf x ≤ 58) (outside image origin address) _ _ (omega arith) (by-count address w out most))
+  abbrev fits : Bool
+  fits = leb (length (lineOf address (windowAt image origin address))) (length out)
 
-  pub passed-over-most : passedOver (rowAnswer image origin address out) ≤ 4
+  pub count-most : AllBytes image → rowOutcome image origin address out .count ≤ 58
+  count-most bytes =
+      let most = line-most address (windowAt image origin address) (window-bytes (address - origin) image bytes) in
+      chosen (λ (o : Outcome). o .count ≤ 58) (wrongSize image origin) _ _ (omega arith)
+      (chosen (λ (o : Outcome). o .count ≤ 58) (outside image origin address) _ _ (omega arith)
+      (chosen (λ (o : Outcome). o .count ≤ 58) fits _ _ most (omega arith)))
+
+  pub passed-over-most : rowOutcome image origin address out .passed ≤ 4
   passed-over-most =
-      chosen (λ (x : Listed). passedOver x ≤ 4) (wrongSize image origin) _ _ (omega arith)
-      (chosen (λ (x : Listed). passedOver x ≤ 4) (outside image origin address) _ _ (omega arith) (by-passed address (windowAt image origin address) out))
+      chosen (λ (o : Outcome). o .passed ≤ 4) (wrongSize image origin) _ _ (omega arith)
+      (chosen (λ (o : Outcome). o .passed ≤ 4) (outside image origin address) _ _ (omega arith)
+      (chosen (λ (o : Outcome). o .passed ≤ 4) fits _ _ (passed-most (windowAt image origin address)) (omega arith)))

@@ -9,11 +9,10 @@ use lib.ListN.{length, take, drop, length-take, length-drop, length-append}
 use lib.Seq.{drop-drop}
 use borrow.Author.Tests.{leb-true, leb-false, le-leb, lt-leb}
 use Rattle.table.proofs.Pages.{chosen}
-use Rattle.listing.specs.declared.Listed.{Listed}
 use Rattle.image.specs.Places.{wrongSize, outside, window, windowAt}
 use Rattle.listing.specs.Rows.{lineOf, passedOf, Row, rowAt, listing, printed, joined}
-use Rattle.listing.specs.Answers.{countOf, passedOver}
-use Rattle.listing.specs.Page.{page, rowsAnswer}
+use Rattle.listing.specs.Answers.{Outcome}
+use Rattle.listing.specs.Page.{page, rowsOutcome}
 use Rattle.listing.proofs.Passed.{passed-least, passed-within}
 use Rattle.listing.proofs.Listing.{listing-next, bytes-joined}
 
@@ -95,17 +94,17 @@ module _ (image : List ℕ) (origin address : ℕ) (out : List ℕ) where
   abbrev fits : Bool
   fits = leb (length (lineOf address (windowAt image origin address))) (length out)
 
-  pub rows-count : countOf (rowsAnswer image origin address out) ≤ length out
+  pub rows-count : rowsOutcome image origin address out .count ≤ length out
   rows-count =
       let s = drop (address - origin) image in
-      chosen (λ (x : Listed). countOf x ≤ length out) (wrongSize image origin) _ _ (omega arith)
-      (chosen (λ (x : Listed). countOf x ≤ length out) (outside image origin address) _ _ (omega arith)
-      (chosen (λ (x : Listed). countOf x ≤ length out) fits _ _ (page-fits (listing address s) (length out)) (omega arith)))
+      chosen (λ (o : Outcome). o .count ≤ length out) (wrongSize image origin) _ _ (omega arith)
+      (chosen (λ (o : Outcome). o .count ≤ length out) (outside image origin address) _ _ (omega arith)
+      (chosen (λ (o : Outcome). o .count ≤ length out) fits _ _ (page-fits (listing address s) (length out)) (omega arith)))
 
-  pub rows-passed : passedOver (rowsAnswer image origin address out) ≤ length image - (address - origin)
+  pub rows-passed : rowsOutcome image origin address out .passed ≤ length image - (address - origin)
   rows-passed =
       let s = drop (address - origin) image in
       let most : length (joined (page (length out) (listing address s))) ≤ length image - (address - origin) = omega (arith, page-passes (listing address s) (length out), ap length (bytes-joined address s), length-drop (address - origin) image) in
-      chosen (λ (x : Listed). passedOver x ≤ length image - (address - origin)) (wrongSize image origin) _ _ (omega arith)
-      (chosen (λ (x : Listed). passedOver x ≤ length image - (address - origin)) (outside image origin address) _ _ (omega arith)
-      (chosen (λ (x : Listed). passedOver x ≤ length image - (address - origin)) fits _ _ most (omega arith)))
+      chosen (λ (o : Outcome). o .passed ≤ length image - (address - origin)) (wrongSize image origin) _ _ (omega arith)
+      (chosen (λ (o : Outcome). o .passed ≤ length image - (address - origin)) (outside image origin address) _ _ (omega arith)
+      (chosen (λ (o : Outcome). o .passed ≤ length image - (address - origin)) fits _ _ most (omega arith)))

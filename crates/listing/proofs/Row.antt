@@ -12,7 +12,7 @@ use Rattle.table.specs.Decode.{numberOf, decodeOf}
 use Rattle.table.proofs.Answers.{nothing-exactly, long-exactly}
 use Rattle.image.specs.Places.{wrongSize, outside, window, windowAt}
 use Rattle.listing.specs.Rows.{passedOf, Row, rowAt}
-use Rattle.listing.specs.Answers.{given, rowAnswer}
+use Rattle.listing.specs.Answers.{given, rowOutcome}
 use Rattle.listing.specs.Consequences.{Answered}
 use Rattle.image.proofs.Window.{window-size}
 use Rattle.listing.proofs.Passed.{passed-within}
@@ -44,10 +44,10 @@ module _ (origin : ℕ) (image : List ℕ) (k : ℕ) (inside : k < length image)
       omega (arith, passed-within s (omega (arith, length-drop k image)), length-take p s)
 
 -- where the image's size is right, a row of the listing is what is answered at its address: its line, and as many bytes as it has
-pub row-answers : (origin : ℕ) (image out : List ℕ) (r : Row) → wrongSize image origin ≡ false → Answered origin image r → rowAnswer image origin (r .address) out ≡ given (r .line) (length (r .bytes)) out
+pub row-answers : (origin : ℕ) (image out : List ℕ) (r : Row) → wrongSize image origin ≡ false → Answered origin image r → rowOutcome image origin (r .address) out ≡ given (r .line) (length (r .bytes)) out
 row-answers origin image out r size x =
     let k = x .place in
     let s = drop k image in
-    subst (λ (q : Row). rowAnswer image origin (q .address) out ≡ given (q .line) (length (q .bytes)) out) (sym (x .answer))
+    subst (λ (q : Row). rowOutcome image origin (q .address) out ≡ given (q .line) (length (q .bytes)) out) (sym (x .answer))
     (rw (size, within origin image k (x .inside), found origin image k (x .inside))
     (ap (λ (p : ℕ). given (rowAt (origin + k) s .line) p out) (passes origin image k (x .inside))))

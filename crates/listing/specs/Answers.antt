@@ -1,4 +1,4 @@
--- What listing a row answers, and the lent bytes as it leaves them. Definitions only.
+-- What listing a row answers, in document 01's numbers, and the lent bytes as it leaves them. Definitions only.
 use Prim.Native.Nat.{ℕ}
 use mathlib.Core.Bool.{cond}
 use mathlib.Core.List.{List, _++_}
@@ -29,31 +29,27 @@ passedOver Listed.ImageSize = 0
 passedOver Listed.Nothing = 0
 passedOver Listed.NoRoom = 0
 
--- a line of a row that passes p bytes, to lent bytes: Done where it is no longer than they are, else NoRoom
-abbrev pub given : List ℕ → ℕ → List ℕ → Listed
-given line p out = cond (leb (length line) (length out)) (Listed.Done (length line) p) Listed.NoRoom
+-- what a host is told of listing rows, in document 01's numbers, and the lent bytes then
+pub record Outcome : Type 0 where
+  pub number : ℕ
+  pub count : ℕ
+  pub passed : ℕ
+  pub bytes : List ℕ
 
--- and the lent bytes then: the line at the front and the bytes behind it as they were, or all as they were
-abbrev pub left : List ℕ → List ℕ → List ℕ
-left line out = cond (leb (length line) (length out)) (line ++ drop (length line) out) out
+abbrev pub outcome : ℕ → ℕ → ℕ → List ℕ → Outcome
+outcome n c p out = record { number = n; count = c; passed = p; bytes = out }
 
--- the same of a row that looks at the bytes w
-abbrev pub givenBy : ℕ → List ℕ → List ℕ → Listed
-givenBy a w out = given (lineOf a w) (passedOf w) out
+-- by an answer that leaves these bytes
+abbrev pub toldBy : Listed → List ℕ → Outcome
+toldBy l out = outcome (numberOf l) (countOf l) (passedOver l) out
 
-abbrev pub leftBy : ℕ → List ℕ → List ℕ → List ℕ
-leftBy a w out = left (lineOf a w) out
+-- a line of a row that passes p bytes: where it is no longer than the lent bytes it stands at their front, those behind it as they were; else 4, NoRoom, and all as they were
+abbrev pub given : List ℕ → ℕ → List ℕ → Outcome
+given line p out = cond (leb (length line) (length out)) (outcome 0 (length line) p (line ++ drop (length line) out)) (outcome 4 0 0 out)
 
--- the answer: 5, 1 and 4 in this order
-abbrev pub rowAnswer : List ℕ → ℕ → ℕ → List ℕ → Listed
-rowAnswer image origin address out =
-    cond (wrongSize image origin) Listed.ImageSize
-    (cond (outside image origin address) Listed.Nothing
-    (givenBy address (windowAt image origin address) out))
-
--- the lent bytes then: on a refusal all as they were
-abbrev pub rowBytes : List ℕ → ℕ → ℕ → List ℕ → List ℕ
-rowBytes image origin address out =
-    cond (wrongSize image origin) out
-    (cond (outside image origin address) out
-    (leftBy address (windowAt image origin address) out))
+-- 5 and 1 before that; these leave the lent bytes as they were
+abbrev pub rowOutcome : List ℕ → ℕ → ℕ → List ℕ → Outcome
+rowOutcome image origin address out =
+    cond (wrongSize image origin) (outcome 5 0 0 out)
+    (cond (outside image origin address) (outcome 1 0 0 out)
+    (given (lineOf address (windowAt image origin address)) (passedOf (windowAt image origin address)) out))

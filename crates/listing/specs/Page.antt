@@ -4,8 +4,8 @@ use mathlib.Core.Bool.{cond}
 use mathlib.Core.List.{List, [], _∷_, _++_}
 use lib.Dec.{leb}
 use lib.ListN.{length, drop}
-use Rattle.listing.specs.declared.Listed.{Listed}
 use Rattle.listing.specs.Rows.{lineOf, Row, listing, printed, joined}
+use Rattle.listing.specs.Answers.{Outcome, outcome}
 use Rattle.image.specs.Places.{wrongSize, outside, windowAt}
 
 -- of some rows those that are written to so much room: from the first on, as many whole lines as fit
@@ -21,18 +21,14 @@ pageOf a s out = page (length out) (listing a s)
 abbrev pub pageAt : List ℕ → ℕ → ℕ → List ℕ → List Row
 pageAt image origin address out = pageOf address (drop (address - origin) image) out
 
--- the answer: 5, 1 and 4 in this order, 4 exactly where the first line does not fit; else the bytes of the lines and of the image
-abbrev pub rowsAnswer : List ℕ → ℕ → ℕ → List ℕ → Listed
-rowsAnswer image origin address out =
-    cond (wrongSize image origin) Listed.ImageSize
-    (cond (outside image origin address) Listed.Nothing
-    (cond (leb (length (lineOf address (windowAt image origin address))) (length out))
-    (Listed.Done (length (printed (pageAt image origin address out))) (length (joined (pageAt image origin address out))))
-    Listed.NoRoom))
+-- some rows, written to lent bytes that have room for them
+abbrev pub written : List Row → List ℕ → Outcome
+written rows out = outcome 0 (length (printed rows)) (length (joined rows)) (printed rows ++ drop (length (printed rows)) out)
 
--- the lent bytes then: the lines at the front, on a refusal all as they were; with too little room no row is on the page
-abbrev pub rowsBytes : List ℕ → ℕ → ℕ → List ℕ → List ℕ
-rowsBytes image origin address out =
-    cond (wrongSize image origin) out
-    (cond (outside image origin address) out
-    (printed (pageAt image origin address out) ++ drop (length (printed (pageAt image origin address out))) out))
+-- 5 and 1 first, then 4 exactly where the first line does not fit; else the lines at the front of the lent bytes, those behind them as they were
+abbrev pub rowsOutcome : List ℕ → ℕ → ℕ → List ℕ → Outcome
+rowsOutcome image origin address out =
+    cond (wrongSize image origin) (outcome 5 0 0 out)
+    (cond (outside image origin address) (outcome 1 0 0 out)
+    (cond (leb (length (lineOf address (windowAt image origin address))) (length out)) (written (pageAt image origin address out) out)
+    (outcome 4 0 0 out)))

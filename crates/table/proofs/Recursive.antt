@@ -11,7 +11,7 @@ use borrow.Author.Tests.{lt-ltb, le-ltb, eqb-true}
 use Rattle.opcode.specs.declared.record.OpCode.{OpCode}
 use Rattle.opcode.specs.Record.{emptyOf}
 use Rattle.opcode.specs.Times.{retimed}
-use Rattle.opcode.specs.Timing.{inserted, removed, mayInsert, mayRemove, insertOf, removeOf}
+use Rattle.opcode.specs.Timing.{written, inserted, removed, mayInsert, mayExtend, mayRemove, insertOf, pushOf, removeOf}
 use Rattle.table.specs.declared.Answer.{Answer}
 use Rattle.table.specs.declared.Decoded.{Decoded}
 use Rattle.table.specs.Row.{Index, ix, iy, Row, row, gap}
@@ -46,17 +46,17 @@ module _ (b2 b3 : ℕ) (d : List ℕ) where
   restEd x = cond (ltb 3 (needed x)) (short (needed x - 3)) (done (untimed (recordOf x (b3 ∷ []) d)))
 
   ed-lines : (i : Index) → map (λ (x : Row). behind (restEd x) i 0xED b2 b3 d) ed ≡ map (λ (x : Row). untimed (recordOf (prefixRow i (ed-behind x)) (b2 ∷ b3 ∷ []) d)) ed
-  unfolding ed mayInsert mayRemove insertOf removeOf inserted removed
+  unfolding ed mayInsert mayExtend mayRemove insertOf pushOf removeOf written inserted removed
   ed-lines i = refl
 
   plain-lines :
       (i : Index) → values (λ (b1 : ℕ). cond (eqb b1 0xED) emptyOf (behind (rest b1) i b1 b2 b3 d)) 0 256
       ≡ values (λ (b1 : ℕ). cond (eqb b1 0xED) emptyOf (untimed (recordOf (behindRow i b1 b2 b3) (b2 ∷ b3 ∷ []) d))) 0 256
-  unfolding plain step pageRow rowOf behindRow mayInsert mayRemove insertOf removeOf inserted removed
+  unfolding plain step pageRow rowOf behindRow mayInsert mayExtend mayRemove insertOf pushOf removeOf written inserted removed
   plain-lines i = refl
 
   ed-agrees : (i : Index) → behind (restEd (getD ed b2 gap)) i 0xED b2 b3 d ≡ untimed (recordOf (prefixRow i (ed-behind (getD ed b2 gap))) (b2 ∷ b3 ∷ []) d)
-  unfolding mayInsert insertOf inserted
+  unfolding mayExtend pushOf written
   ed-agrees i =
       sym (List·getD-map (λ (x : Row). behind (restEd x) i 0xED b2 b3 d) ed b2 gap)
       ∙ ap (λ (l : List OpCode). getD l b2 (untimed (recordOf gap (b2 ∷ b3 ∷ []) d))) (ed-lines i)

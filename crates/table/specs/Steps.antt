@@ -14,7 +14,7 @@ use Rattle.opcode.specs.declared.record.OpCode.{OpCode}
 use Rattle.opcode.specs.declared.timing.Timing.{Timing}
 use Rattle.opcode.specs.Record.{six, emptyOf}
 use Rattle.opcode.specs.Times.{retimed}
-use Rattle.opcode.specs.Timing.{insertOf, removeOf}
+use Rattle.opcode.specs.Timing.{insertOf, pushOf, removeOf}
 use Rattle.table.specs.declared.Answer.{Answer}
 use Rattle.table.specs.declared.Decoded.{Decoded}
 use Rattle.table.specs.Row.{Index, ix, iy, gap, indexOf, states}
@@ -177,7 +177,7 @@ withHl i o = insertOf (changed o (o .length .0 + 1) (o .ins) (replaceHl i (o .op
 
 -- length 1, NOP; T-states [4] if none are set
 abbrev pub asNop : OpCode → OpCode
-asNop o = cond (eqb (o .mcycles .0) 0) (insertOf (changed o 1 Instruction.NOP (o .op1) (o .op2)) 0 (timing (4 ∷ [])) .rec) (changed o 1 Instruction.NOP (o .op1) (o .op2))
+asNop o = cond (eqb (o .mcycles .0) 0) (pushOf (changed o 1 Instruction.NOP (o .op1) (o .op2)) (record { 0 = 4 }) .rec) (changed o 1 Instruction.NOP (o .op1) (o .op2))
 
 -- the record of the bytes behind the prefix, changed: d and n are the third and the fourth byte
 abbrev pub prefixed : Index → ℕ → ℕ → OpCode → OpCode

@@ -1,80 +1,90 @@
-// Six T-state places before and after an edit.
+// Six T-state places before and after an edit, and whether it may be done.
 ghost use mathlib.Core.Path.{_≡_};
 ghost use Prim.Native.Nat.{_+_, _≤_, _<_};
-ghost use lib.ListN.{take, getD};
+ghost use lib.ListN.{take, drop, getD};
 ghost use Rattle.opcode.specs.Record.{unfilled, six};
-ghost use Rattle.timing.specs.Splice.{spliced, maySplice};
+ghost use Rattle.opcode.specs.Timing.{written, inserted, removed, mayInsert, mayRemove};
 use opcode::counts::TStates;
 use opcode::record::OpCode;
 
-// Place k of the first m of t, and zero past them.
-fn at(t: [TStates; 6], m: usize, k: usize) -> TStates
-    requires { ⌜ m ≤ 6 ⌝ }
-    ensures { λ r. ⌜ r ≡ getD (take m t) k unfilled ⌝ }
-{
-    if k < m {
-        return t[k];
-    }
-    TStates(0)
-}
-
-// Place k once the first n of s are in for `out` places of the first m of t, from place pos.
-fn spliced_at(
+// Place k of t once n places of s, from `from` on, are written over those from `to` on.
+fn written_at(
     t: [TStates; 6],
-    m: usize,
-    pos: usize,
-    out: usize,
+    to: usize,
     s: [TStates; 6],
+    from: usize,
     n: usize,
     k: usize,
 ) -> TStates
-    requires { ⌜ (m ≤ 6) × (pos + out ≤ m) × (m + n ≤ 6 + out) × (k < 6) ⌝ }
-    ensures { λ r. ⌜ r ≡ getD (spliced (take m t) pos out (take n s)) k unfilled ⌝ }
+    requires { ⌜ (to + n ≤ 6) × (from + n ≤ 6) × (k < 6) ⌝ }
+    ensures { λ r. ⌜ r ≡ getD (written t to (take n (drop from s))) k unfilled ⌝ }
 {
-    if k < pos {
-        return at(t, m, k);
+    if k < to {
+        return t[k];
     }
-    if k < pos + n {
-        return at(s, n, k - pos);
+    if k < to + n {
+        return s[k - to + from];
     }
-    at(t, m, k - n + out)
+    t[k]
 }
 
 // All six places.
-pub(crate) fn with_spliced(
+pub(crate) fn with_written(
     t: [TStates; 6],
-    m: usize,
-    pos: usize,
-    out: usize,
+    to: usize,
     s: [TStates; 6],
+    from: usize,
     n: usize,
 ) -> [TStates; 6]
-    requires { ⌜ (m ≤ 6) × (pos + out ≤ m) × (m + n ≤ 6 + out) ⌝ }
-    ensures { λ r. ⌜ r ≡ six (spliced (take m t) pos out (take n s)) ⌝ }
+    requires { ⌜ (to + n ≤ 6) × (from + n ≤ 6) ⌝ }
+    ensures { λ r. ⌜ r ≡ six (written t to (take n (drop from s))) ⌝ }
 {
     [
-        spliced_at(t, m, pos, out, s, n, 0),
-        spliced_at(t, m, pos, out, s, n, 1),
-        spliced_at(t, m, pos, out, s, n, 2),
-        spliced_at(t, m, pos, out, s, n, 3),
-        spliced_at(t, m, pos, out, s, n, 4),
-        spliced_at(t, m, pos, out, s, n, 5),
+        written_at(t, to, s, from, n, 0),
+        written_at(t, to, s, from, n, 1),
+        written_at(t, to, s, from, n, 2),
+        written_at(t, to, s, from, n, 3),
+        written_at(t, to, s, from, n, 4),
+        written_at(t, to, s, from, n, 5),
     ]
 }
 
-// May n places come in for `out` of m filled ones, from place pos?
-pub(crate) fn may_splice(m: usize, pos: usize, out: usize, n: usize) -> bool
-    requires { ⌜ out ≤ 6 ⌝ }
-    ensures { λ r. ⌜ r ≡ maySplice m pos out n ⌝ }
+// With the first n of s put in before place pos: what stands there moves back, and what passes the sixth place is lost.
+pub(crate) fn with_inserted(t: [TStates; 6], pos: usize, s: [TStates; 6], n: usize) -> [TStates; 6]
+    requires { ⌜ pos + n ≤ 6 ⌝ }
+    ensures { λ r. ⌜ r ≡ six (inserted t pos (take n s)) ⌝ }
+{
+    let moved = with_written(t, pos + n, t, pos, OpCode::PLACES - n - pos);
+    with_written(moved, pos, s, 0, n)
+}
+
+// Without place pos: what stands behind it moves up, and the sixth place stays as it is.
+pub(crate) fn without(t: [TStates; 6], pos: usize) -> [TStates; 6]
+    requires { ⌜ pos < 6 ⌝ }
+    ensures { λ r. ⌜ r ≡ removed t pos ⌝ }
+{
+    with_written(t, pos, t, pos + 1, OpCode::PLACES - 1 - pos)
+}
+
+// Is there room for n more than the m filled ones, and is pos one of these or the next?
+pub(crate) fn may_insert(m: usize, pos: usize, n: usize) -> bool
+    ensures { λ r. ⌜ r ≡ mayInsert m pos n ⌝ }
 {
     if OpCode::PLACES < m {
         return false;
     }
-    if OpCode::PLACES < pos {
+    if m < pos {
         return false;
     }
-    if m < pos + out {
+    n <= OpCode::PLACES - m
+}
+
+// Is pos one of m filled places, at most six?
+pub(crate) fn may_remove(m: usize, pos: usize) -> bool
+    ensures { λ r. ⌜ r ≡ mayRemove m pos ⌝ }
+{
+    if OpCode::PLACES < m {
         return false;
     }
-    n <= OpCode::PLACES + out - m
+    pos < m
 }

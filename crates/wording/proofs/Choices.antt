@@ -7,9 +7,8 @@ use Rattle.opcode.specs.declared.record.OpCode.{OpCode}
 use Rattle.table.specs.declared.Answer.{Answer}
 use Rattle.table.specs.declared.Decoded.{Decoded}
 use Rattle.table.specs.Decode.{decodeOf}
-use Rattle.wording.specs.declared.Written.{Written}
 use Rattle.wording.specs.Ascii.{ascii}
-use Rattle.wording.specs.Answers.{numberOf, textAnswer}
+use Rattle.wording.specs.Answers.{outcome, textOutcome}
 use Rattle.wording.specs.Text.{timesText, bytesPart, instructionPart, timesPart, plainText, fullText, textOf}
 
 -- 6, instruction and T-states, is the plain text
@@ -30,10 +29,10 @@ unfolding textOf
 zero-is-empty r = refl
 
 -- which is Done with count 0, also in a buffer of length 0
-pub empty-fits : (s : List ℕ) → decodeOf s .answer ≡ Answer.Done → textAnswer 0 (decodeOf s) [] ≡ Written.Done 0
+pub empty-fits : (s : List ℕ) → decodeOf s .answer ≡ Answer.Done → textOutcome 0 (decodeOf s) [] ≡ outcome 0 0 0 []
 unfolding textOf
 empty-fits s done = rw done refl
 
 -- 26 comes before all others
-pub bad-choice : (choice : ℕ) → 7 < choice → (d : Decoded) (out : List ℕ) → numberOf (textAnswer choice d out) ≡ 26
+pub bad-choice : (choice : ℕ) → 7 < choice → (d : Decoded) (out : List ℕ) → textOutcome choice d out ≡ outcome 26 0 0 out
 bad-choice choice over d out = rw (lt-ltb 7 choice over) refl

@@ -20,19 +20,19 @@ use Rattle.table.specs.Plain.{plain}
 use Rattle.table.specs.Cb.{cb}
 use Rattle.table.specs.Ed.{ed}
 use Rattle.table.specs.Prefix.{behindRow}
+use Rattle.table.specs.Decode as decode
 use Rattle.table.specs.Decode.{isPrefix, rowOf, operandBytes, made, recordOf, four, rust, decodeOf}
 use Rattle.table.specs.Consequences.{values, AllBytes}
 use Rattle.table.proofs.Upto.{agree}
 use Rattle.table.proofs.Pages.{both-left, both-right, chosen}
 use Rattle.table.proofs.Rows.{Everywhere, row-holds}
 use Rattle.table.proofs.Done.{decides}
-use Rattle.wording.specs.declared.Written.{Written}
 use Rattle.wording.specs.Ascii.{ascii}
 use Rattle.wording.specs.Digits.{hex8, hex16, decimal, digitAt, signed}
 use Rattle.wording.specs.Names.{names, nameOf, reg8Names, reg8Text, reg16Names, reg16Text, conditionNames, conditionText}
 use Rattle.wording.specs.Sizes.{textMost, bytesMost, instructionMost, timesMost, choiceMost}
 use Rattle.wording.specs.Text.{placeText, each, byteText, bytesPart, instructionPart, timesPart, part, hasBytes, hasInstruction, hasTimes, textOf}
-use Rattle.wording.specs.Answers.{countOf, answered, textAnswer}
+use Rattle.wording.specs.Answers.{Outcome, outcome, given, textOutcome}
 
 -- the bytes behind the code at which a row's text is longest, and data as long as any
 abbrev lowest : List ℕ
@@ -176,15 +176,15 @@ module _ (choice : ℕ) where
     any-most = le-trans text-most choice-most
 
 -- nor is any count
-count-most : (a : Answer) (t out : List ℕ) → (a ≡ Answer.Done → length t ≤ textMost) → countOf (answered a t out) ≤ textMost
-count-most Answer.Done t out most = chosen (λ (w : Written). countOf w ≤ textMost) (leb (length t) (length out)) _ _ (most refl) (omega arith)
+count-most : (a : Answer) (t out : List ℕ) → (a ≡ Answer.Done → length t ≤ textMost) → cond (eqb (decode.numberOf a) 0) (given t out) (outcome (decode.numberOf a) 0 (decode.missingOf a) out) .count ≤ textMost
+count-most Answer.Done t out most = chosen (λ (o : Outcome). o .count ≤ textMost) (leb (length t) (length out)) _ _ (most refl) (omega arith)
 count-most Answer.Nothing t out most = omega arith
 count-most (Answer.Short k) t out most = omega arith
 count-most Answer.Long t out most = omega arith
 
-pub text-count : (choice : ℕ) (s : List ℕ) → AllBytes s → (out : List ℕ) → countOf (textAnswer choice (decodeOf s) out) ≤ textMost
+pub text-count : (choice : ℕ) (s : List ℕ) → AllBytes s → (out : List ℕ) → textOutcome choice (decodeOf s) out .count ≤ textMost
 text-count choice s bytes out =
-    chosen (λ (w : Written). countOf w ≤ textMost) (ltb 7 choice) _ _ (omega arith) (count-most (decodeOf s .answer) (textOf choice (decodeOf s .rec)) out (any-most choice s bytes))
+    chosen (λ (o : Outcome). o .count ≤ textMost) (ltb 7 choice) _ _ (omega arith) (count-most (decodeOf s .answer) (textOf choice (decodeOf s .rec)) out (any-most choice s bytes))
 
 -- DD CB 80 C7 is SET 00, (IX-128), A: each of its texts is the longest of its choice
 abbrev longest : OpCode

@@ -1,10 +1,11 @@
 // Writing to lent bytes. A function that is given a place `at` writes behind what stands before it, as far as there is room,
 // and gives the place behind what it wrote.
 ghost use mathlib.Core.Path.{_≡_};
-ghost use mathlib.Core.List.{[], _∷_};
-ghost use Rattle.wording.specs.Answers.{fitted, leaves};
+ghost use mathlib.Core.Bool.{cond};
+ghost use mathlib.Core.List.{[], _∷_, _++_};
+ghost use lib.Dec.{leb};
+ghost use lib.ListN.{length, drop};
 ghost use Rattle.writer.specs.Wrote.{Wrote};
-use wording::Written;
 
 // One byte.
 pub fn put(buf: &mut [u8], at: usize, b: u8) -> usize
@@ -30,14 +31,14 @@ pub fn put_bytes(buf: &mut [u8], at: usize, s: &[u8]) -> usize
     next
 }
 
-// A whole text to the front of lent bytes, or nothing where it does not fit.
-pub fn give(text: &[u8], out: &mut [u8]) -> Written
-    ensures answer { λ w. ⌜ w ≡ fitted (now (text .entry)) (now (out .entry)) ⌝ }
-    ensures bytes { λ _. ⌜ now (out .exit) ≡ leaves (fitted (now (text .entry)) (now (out .entry))) (now (text .entry)) (now (out .entry)) ⌝ }
+// A whole text to the front of lent bytes, or nothing where it does not fit; says which.
+pub fn give(text: &[u8], out: &mut [u8]) -> bool
+    ensures answer { λ b. ⌜ b ≡ leb (length (now (text .entry))) (length (now (out .entry))) ⌝ }
+    ensures bytes { λ _. ⌜ now (out .exit) ≡ cond (leb (length (now (text .entry))) (length (now (out .entry)))) (now (text .entry) ++ drop (length (now (text .entry))) (now (out .entry))) (now (out .entry)) ⌝ }
 {
     if out.len() < text.len() {
-        return Written::NoRoom;
+        return false;
     }
     bytes::copy(text, out);
-    Written::Done(text.len())
+    true
 }

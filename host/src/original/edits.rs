@@ -94,6 +94,22 @@ mod tests {
         check(&six, &[Remove(6), Remove(5)], &[false, true], &five);
     }
 
+    /// What two filled places and four others become: over them, before them, and one place up with the sixth kept.
+    #[test]
+    fn behind_the_filled_places() {
+        for (edit, places, count) in [
+            (Push(9), [4, 3, 9, 11, 12, 13], 3),
+            (Extend(vec![8, 9]), [4, 3, 8, 9, 12, 13], 4),
+            (Insert(1, vec![8, 9]), [4, 8, 9, 3, 10, 11], 4),
+            (Remove(0), [3, 0, 11, 12, 13, 13], 1),
+        ] {
+            let mut record = timed(&[4, 3, 10, 11, 12, 13]);
+            record.mcycles = 2;
+            assert!(edit.done(&mut record));
+            assert_eq!((record.tstates, record.mcycles), (places, count), "{edit:?}");
+        }
+    }
+
     /// What stands in docs/DIFFERENCES.md as the original's own: behind a gap, and the last cycle out instead.
     #[test]
     fn original_past_the_filled_places() {

@@ -10,14 +10,14 @@ part-is-written-end : tie.Need-part-is-written-end
 part-is-written-end c =
     let s = c .before .before .before .before .before .before .before .before .before .before .args in
     let most = rows-count (now (s .image)) 0 (s .place) (now (s .page)) in
-    let count = rw (← c .before .before .before .before .before .before .rows .ensures .0, c .before .before .listed .given .1) at most in
+    let count = rw (← c .before .before .before .before .before .before .rows .ensures, c .before .before .listed .given .1) at most in
     omega (arith, count, c .before .before .before .before .before .page .given)
 
 returns : tie.Need-returns
 returns c =
     let s = c .before .before .before .before .before .before .before .before .before .before .before .before .before .args in
     let most = rows-passed (now (s .image)) 0 (s .place) (now (s .page)) in
-    let passed = rw (← c .before .before .before .before .before .before .before .before .before .rows .ensures .0, c .before .before .before .before .before .listed .given .1) at most in
+    let passed = rw (← c .before .before .before .before .before .before .before .before .before .rows .ensures, c .before .before .before .before .before .listed .given .1) at most in
     omega (arith, passed, c .before .before .before .before .before .before .before .before .before .before .before .before .before .pre .0)
 
 pub print-page-spec : {M : Type 1} → statement M

@@ -1,4 +1,4 @@
--- `give` meets its contract: the test is that of `fitted`. Assumes nothing.
+-- `give` meets its contract: the test is whether the text fits. Assumes nothing.
 use mathlib.Core.Path.{refl}
 use native.Mathlib.Omega.{arith}
 use lib.ListN.{length}

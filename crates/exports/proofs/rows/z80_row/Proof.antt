@@ -1,9 +1,7 @@
 -- `z80_row` meets its contract: number, count and bytes passed are those of the answer. Assumes nothing.
-use mathlib.Core.Path.{ap, _∙_}
 use Prim.Native.Nat.{_≤_}
 use native.Mathlib.Omega.{arith}
 use denote.Ref.{now}
-use Rattle.listing.specs.Answers.{numberOf, countOf, passedOver}
 use Rattle.listing.proofs.Longest.{count-most, passed-over-most}
 use borrow.Author.Needs.{needs}
 use Rattle.exports.proofs.rows.z80_row.Statement.{statement}
@@ -13,18 +11,17 @@ use Rattle.exports.proofs.rows.z80_row.Tie as tie
 count-few : (k : tie.After-tell) → k .tell .result .count ≤ 58
 count-few k =
     let s = k .before .before .before .before .before .before .before .args in
-    rw (k .tell .ensures .1 .0, k .before .before .before .row .ensures .0) (count-most (now (s .image)) (s .origin) (s .address) (now (s .out)) (λ j. k .before .before .before .before .before .before .shared-slice-known .given j .fits))
+    rw (k .tell .ensures .1 .0) (rw (← k .before .before .before .row .ensures) at (count-most (now (s .image)) (s .origin) (s .address) (now (s .out)) (λ j. k .before .before .before .before .before .before .shared-slice-known .given j .fits)))
 
 passed-few : (k : tie.After-tell) → k .tell .result .passed ≤ 4
 passed-few k =
     let s = k .before .before .before .before .before .before .before .args in
-    rw (k .tell .ensures .1 .1, k .before .before .before .row .ensures .0) (passed-over-most (now (s .image)) (s .origin) (s .address) (now (s .out)))
+    rw (k .tell .ensures .1 .1) (rw (← k .before .before .before .row .ensures) at (passed-over-most (now (s .image)) (s .origin) (s .address) (now (s .out))))
 
 returns : tie.Need-returns
 returns c =
-    let w = c .before .before .before .before .before .row .ensures in
     let t = c .before .before .tell .ensures in
-    (t .0 ∙ ap numberOf (w .0), (t .1 .0 ∙ ap countOf (w .0), (t .1 .1 ∙ ap passedOver (w .0), w .1)))
+    rw (t .0, t .1 .0, t .1 .1) (c .before .before .before .before .before .row .ensures)
 
 pub z80-row-spec : {M : Type 1} → statement M
 z80-row-spec =

@@ -1,8 +1,6 @@
 -- `z80_text` meets its contract: number, count and missing bytes are those of the answer. Assumes nothing.
-use mathlib.Core.Path.{ap, _∙_}
 use native.Mathlib.Omega.{arith}
 use denote.Ref.{now}
-use Rattle.wording.specs.Answers.{numberOf, countOf, missingOf}
 use Rattle.wording.proofs.Longest.{text-count}
 use borrow.Author.Needs.{needs}
 use Rattle.exports.proofs.texts.z80_text.Statement.{statement}
@@ -12,14 +10,13 @@ use Rattle.exports.proofs.texts.z80_text.Tie as tie
 cast-count : tie.Need-cast-count
 cast-count c =
     let s = c .before .before .before .before .before .before .before .before .args in
-    let most = rw (← c .before .before .before .before .text .ensures .0, ← c .before .tell .ensures .1 .0) at (text-count (s .choice) (now (s .ins)) (λ k. c .before .before .before .before .before .before .before .shared-slice-known .given k .fits) (now (s .out))) in
+    let most = rw (← c .before .before .before .before .text .ensures, ← c .before .tell .ensures .1 .0) at (text-count (s .choice) (now (s .ins)) (λ k. c .before .before .before .before .before .before .before .shared-slice-known .given k .fits) (now (s .out))) in
     record { fits = omega arith }
 
 returns : tie.Need-returns
 returns c =
-    let w = c .before .before .before .before .before .text .ensures in
     let t = c .before .before .tell .ensures in
-    (t .0 ∙ ap numberOf (w .0), (t .1 .0 ∙ ap countOf (w .0), (t .1 .1 ∙ ap missingOf (w .0), w .1)))
+    rw (t .0, t .1 .0, t .1 .1) (c .before .before .before .before .before .text .ensures)
 
 pub z80-text-spec : {M : Type 1} → statement M
 z80-text-spec = tie.close (tie.spec (λ c κs. search needs) (λ c κs. search needs) cast-count (λ c. search needs) (λ c. search needs) returns)
