@@ -13,7 +13,7 @@ static const uint64_t FILL = 0xA5A5A5A5A5A5A5A5;
 
 // Inputs are counted with the first byte highest.
 struct request {
-    uint32_t wanted, function, first, count;
+    uint32_t wanted, mode, function, first, count;
 };
 
 // What a call leaves: its number, count and missing bytes, and the buffer with what stands behind the room. As words it is hashed.
@@ -50,13 +50,14 @@ static uint64_t step(uint64_t state, uint64_t word) {
 }
 
 // One call, with everything that it may leave filled before it; the bytes of an input are those of src/bin/exhaust/block.rs.
-static void call(uint32_t function, uint32_t input, union left *left) {
+static void call(const struct request *r, uint32_t input, union left *left) {
     uint8_t ins[INPUT] = {input >> 16, input >> 8, input, (input >> 24) + (input >> 16) + (input >> 8) + input};
     for (size_t i = 0; i < WORDS; i++) left->words[i] = FILL;
-    if (function == RECORD) {
-        left->number = z80_record(ins, INPUT, left->lent, Z80_RECORD_SIZE, &left->missing);
+    if (r->function == RECORD) {
+        left->number = z80_record(r->mode, ins, INPUT, left->lent, Z80_RECORD_SIZE, &left->missing);
     } else {
-        left->number = z80_text(function - 1, ins, INPUT, left->lent, Z80_TEXT_MAX, &left->count, &left->missing);
+        uint8_t choice = r->function - 1;
+        left->number = z80_text(r->mode, choice, ins, INPUT, left->lent, Z80_TEXT_MAX, &left->count, &left->missing);
     }
 }
 
@@ -64,7 +65,7 @@ static int put_hash(const struct request *r) {
     union left left;
     uint64_t state = 0;
     for (uint32_t i = 0; i < r->count; i++) {
-        call(r->function, r->first + i, &left);
+        call(r, r->first + i, &left);
         for (size_t k = 0; k < WORDS; k++) state = step(state, left.words[k]);
     }
     return put(&state, sizeof state);
@@ -73,7 +74,7 @@ static int put_hash(const struct request *r) {
 static int put_all(const struct request *r) {
     union left left;
     for (uint32_t i = 0; i < r->count; i++) {
-        call(r->function, r->first + i, &left);
+        call(r, r->first + i, &left);
         if (!put(&left, sizeof left)) return 0;
     }
     return 1;

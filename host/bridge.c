@@ -10,9 +10,9 @@ enum { RECORD, TEXT, ROW = TEXT + 256, MAP };
 enum { NUMBER = 4, NUMBERS = 4, LOOKED_AT = 64, OUTCOME = 2 + NUMBERS * NUMBER + LOOKED_AT };
 enum { LONGEST = 65537, LONGEST_PART = 2 * LONGEST + 1, BEHIND = 4, PIPE = 65536 };
 
-// What a call is about: the bytes of a row, an image and where it is looked at, or the map that was read last.
+// What a call is about, in its mode: the bytes of a row, an image and where it is looked at, or the map that was read last.
 struct about {
-    size_t function, len;
+    size_t function, mode, len;
     uint16_t origin, address;
 };
 
@@ -95,9 +95,9 @@ static const uint8_t *slice(const uint8_t *from, size_t len) {
     return len ? from : 0;
 }
 
-static uint8_t check(uint16_t origin, uint32_t *address) {
+static uint8_t check(uint8_t mode, uint16_t origin, uint32_t *address) {
     const uint8_t *i = slice(image.lent, image.len), *m = slice(marks.lent, marks.len), *e = slice(entries.lent, entries.len);
-    return z80_map_check(i, image.len, origin, m, marks.len, e, entries.len, address);
+    return z80_map_check(mode, i, image.len, origin, m, marks.len, e, entries.len, address);
 }
 
 // Whether a part of the map, or what stands behind it, is not as it was.
@@ -112,10 +112,10 @@ static uint8_t call(const struct about *a, uint8_t *out, size_t room, struct num
     const uint8_t *ins = slice(bytes, a->len);
     if (!room) out = 0;
     switch (a->function) {
-    case RECORD: return z80_record(ins, a->len, out, room, &n->missing);
-    case ROW: return z80_row(ins, a->len, a->origin, a->address, out, room, &n->count, &n->passed);
-    case MAP: return check(a->origin, &n->address);
-    default: return z80_text(a->function - TEXT, ins, a->len, out, room, &n->count, &n->missing);
+    case RECORD: return z80_record(a->mode, ins, a->len, out, room, &n->missing);
+    case ROW: return z80_row(a->mode, ins, a->len, a->origin, a->address, out, room, &n->count, &n->passed);
+    case MAP: return check(a->mode, a->origin, &n->address);
+    default: return z80_text(a->mode, a->function - TEXT, ins, a->len, out, room, &n->count, &n->missing);
     }
 }
 
@@ -144,10 +144,10 @@ static int answer_rooms(const struct about *a, size_t k) {
 }
 
 // A function of a row's bytes: the fixed ones, then every choice of the free ones.
-static int answer_inputs(size_t function) {
+static int answer_inputs(size_t mode, size_t function) {
     size_t free, fixed;
     if (!get_number(&free, 1) || !get_number(&fixed, 2) || !get_bytes_and_rooms(fixed) || free > 2) return 0;
-    struct about a = {function, fixed + free, 0, 0};
+    struct about a = {function, mode, fixed + free, 0, 0};
     for (size_t choice = 0; choice < 1ul << 8 * free; choice++) {
         for (size_t i = 0; i < free; i++) bytes[fixed + i] = choice >> 8 * (free - 1 - i);
         if (!answer_rooms(&a, choice * sizes)) return 0;
@@ -156,37 +156,39 @@ static int answer_inputs(size_t function) {
 }
 
 // Rows of an image, at so many addresses from the first on.
-static int answer_places(void) {
+static int answer_places(size_t mode) {
     size_t origin, first, count, len;
     if (!get_number(&origin, 2) || !get_number(&first, 2) || !get_number(&count, 4) || !get_number(&len, 4)) return 0;
     if (!get_bytes_and_rooms(len)) return 0;
     for (size_t i = 0; i < count; i++) {
-        struct about a = {ROW, len, origin, first + i};
+        struct about a = {ROW, mode, len, origin, first + i};
         if (!answer_rooms(&a, i * sizes)) return 0;
     }
     return 1;
 }
 
 // The check of a map: starts stand behind its marks, and entries outside behind those that it has.
-static int answer_map(void) {
+static int answer_map(size_t mode) {
     size_t origin;
     if (!get_number(&origin, 2) || !get_part(&image, 0) || !get_part(&marks, 1) || !get_part(&entries, 0xFF)) return 0;
-    struct about a = {MAP, 0, origin, 0};
+    struct about a = {MAP, mode, 0, origin, 0};
     return get_rooms() && answer_rooms(&a, 0);
 }
 
-static int answer_next(size_t function) {
+static int answer_next(size_t mode) {
+    size_t function;
+    if (!get_number(&function, 2)) return 0;
     switch (function) {
-    case ROW: return answer_places();
-    case MAP: return answer_map();
-    default: return function < ROW && answer_inputs(function);
+    case ROW: return answer_places(mode);
+    case MAP: return answer_map(mode);
+    default: return function < ROW && answer_inputs(mode, function);
     }
 }
 
 int main(void) {
-    size_t function;
-    while (get_number(&function, 2)) {
-        if (!answer_next(function)) return 1;
+    size_t mode;
+    while (get_number(&mode, 1)) {
+        if (!answer_next(mode)) return 1;
     }
     return flush() ? 0 : 1;
 }

@@ -1,7 +1,7 @@
-//! check_map IMAGE MARKS ENTRIES: checks a code map at origin 0 with the proved function.
+//! check_map IMAGE MARKS ENTRIES: checks a code map at origin 0 with the proved function, in the Rust's mode.
 
 use host::answer::name;
-use host::arguments::Map;
+use host::arguments::{Map, RUST};
 use host::exported::z80_map_check;
 use std::{env, fs, io};
 
@@ -17,7 +17,7 @@ fn main() -> io::Result<()> {
         entries,
     };
     let mut address = 0;
-    match z80_map_check(&map, &mut address) {
+    match z80_map_check(RUST, &map, &mut address) {
         0 => println!("every walk from the entries stays on starts"),
         number => println!("{} at {address:04X}", name(number as usize).unwrap()),
     }

@@ -29,10 +29,11 @@ pub enum Refusal {
     Stray = 12,
     BadNext = 13,
     BadChoice = 26,
+    BadMode = 35,
 }
 
 /// All refusals, in the order of their numbers.
-pub const REFUSALS: [Refusal; 14] = [
+pub const REFUSALS: [Refusal; 15] = [
     Nothing,
     Short,
     Long,
@@ -47,6 +48,7 @@ pub const REFUSALS: [Refusal; 14] = [
     Stray,
     BadNext,
     BadChoice,
+    BadMode,
 ];
 
 /// The name of an answer by its number.
@@ -81,7 +83,7 @@ mod tests {
     #[test]
     fn refusals_by_number() {
         let numbers = REFUSALS.map(|refusal| refusal as usize);
-        assert!(numbers.into_iter().eq((1..=13).chain([26])));
+        assert!(numbers.into_iter().eq((1..=13).chain([26, 35])));
     }
 
     #[test]
@@ -92,11 +94,12 @@ mod tests {
             (7, "EntryCount"),
             (13, "BadNext"),
             (26, "BadChoice"),
+            (35, "BadMode"),
         ];
         for (number, word) in names {
             assert_eq!(name(number).unwrap(), word);
         }
-        for number in [14, 25, 27] {
+        for number in [14, 25, 27, 34, 36] {
             assert_eq!(name(number), None);
         }
     }

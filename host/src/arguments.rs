@@ -1,5 +1,5 @@
-//! What a function is asked about: the parts of a text, a place of an image, or a map of it. The exported functions take these,
-//! and so does the plain reading that they are held to.
+//! What a function is asked about: the mode, the parts of a text, a place of an image, or a map of it. The exported functions take
+//! these, and so does the plain reading that they are held to.
 
 /// The bytes of a whole address space, past whose end no image may reach.
 pub const ADDRESSES: usize = 65_536;
@@ -12,6 +12,10 @@ pub const PAIR: usize = 2;
 pub const DATA: u8 = 0;
 pub const START: u8 = 1;
 pub const INSIDE: u8 = 2;
+
+/// The modes: bytes are read as the original reads them, or as the chip does.
+pub const RUST: u8 = 0;
+pub const CHIP: u8 = 1;
 
 /// The parts of a text, which a choice adds up: the row's bytes, its instruction with the operands, its T-states.
 pub const BYTES: u8 = 1;

@@ -17,9 +17,9 @@ mod linked {
     use std::io;
 
     /// Checks a map; with it whether the map was altered.
-    fn checked(map: &Map, address: &mut u32, altered: &mut bool) -> u8 {
+    fn checked(mode: u8, map: &Map, address: &mut u32, altered: &mut bool) -> u8 {
         let laid = Laid::out(map);
-        let number = z80_map_check(&laid.map(), address);
+        let number = z80_map_check(mode, &laid.map(), address);
         *altered = laid != Laid::out(map);
         number
     }
@@ -42,14 +42,14 @@ mod linked {
                 buffer,
             } = &mut lent;
             let out = &mut buffer[..call.room];
-            let mut map_altered = false;
+            let (mode, mut map_altered) = (call.mode, false);
             let number = match call.asked {
-                Asked::Bytes(Function::Record, ins) => z80_record(ins, out, missing),
+                Asked::Bytes(Function::Record, ins) => z80_record(mode, ins, out, missing),
                 Asked::Bytes(Function::Text(choice), ins) => {
-                    z80_text(*choice, ins, out, count, missing)
+                    z80_text(mode, *choice, ins, out, count, missing)
                 }
-                Asked::Row(place) => z80_row(place, out, count, passed),
-                Asked::Map(map) => checked(map, address, &mut map_altered),
+                Asked::Row(place) => z80_row(mode, place, out, count, passed),
+                Asked::Map(map) => checked(mode, map, address, &mut map_altered),
             };
             Ok(Outcome {
                 number,

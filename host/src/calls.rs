@@ -5,8 +5,9 @@ use crate::asked::Asked;
 use crate::function::Function;
 use crate::maps::Drawn;
 
-/// All that is asked about, in each of the rooms.
+/// All that is asked about in a mode, or with a number that is none, in each of the rooms.
 pub struct Calls {
+    pub mode: u8,
     pub rooms: Vec<u8>,
     pub about: About,
 }
@@ -41,8 +42,9 @@ pub struct Places {
 
 impl Calls {
     /// The check of a map, to which no buffer is lent.
-    pub fn of_map(drawn: Drawn) -> Calls {
+    pub fn of_map(mode: u8, drawn: Drawn) -> Calls {
         Calls {
+            mode,
             rooms: vec![0],
             about: About::Map(drawn),
         }
@@ -57,14 +59,15 @@ impl Calls {
         }
     }
 
-    /// As the bridge reads them: the function, what is asked about, the rooms' count and the rooms.
+    /// As the bridge reads them: the mode, the function, what is asked about, the rooms' count and the rooms.
     pub fn request(&self) -> Vec<u8> {
         let about = match &self.about {
             About::Inputs(inputs) => inputs.request(),
             About::Places(places) => places.request(),
             About::Map(drawn) => map_request(drawn),
         };
-        [&about, &[self.rooms.len() as u8][..], &self.rooms].concat()
+        let rooms = [&[self.rooms.len() as u8], &self.rooms[..]].concat();
+        [&[self.mode], &about[..], &rooms].concat()
     }
 }
 

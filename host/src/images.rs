@@ -80,11 +80,12 @@ fn longer(prefix: &[u8], mixed: &mut Mixed) -> Vec<u8> {
 mod tests {
     use super::*;
     use crate::plain::listing::listing;
+    use crate::plain::Mode;
 
     /// The places in an image where its rows begin.
     fn starts(image: &[u8]) -> Vec<usize> {
         let mut at = 0;
-        let rows = listing(image, 0).unwrap();
+        let rows = listing(Mode::Rust, image, 0).unwrap();
         let start = rows.iter().map(|row| (at, at += row.passed).0);
         start.collect()
     }
@@ -127,7 +128,7 @@ mod tests {
     fn mixed_code_is_long_rows_mostly() {
         let code = mixed_code(10_000, &mut Mixed::new(0x5A80_0002));
         assert_eq!(code.len(), 10_000);
-        let rows = listing(&code, 0).unwrap();
+        let rows = listing(Mode::Rust, &code, 0).unwrap();
         let longer = rows.iter().filter(|row| row.passed > 1).count();
         assert!(longer * 4 > rows.len() * 3, "{longer} of {}", rows.len());
     }

@@ -30,6 +30,7 @@ pub mod list_rows;
 pub mod map_runs;
 pub mod maps;
 pub mod mixed;
+pub mod mode_runs;
 pub mod outcome;
 pub mod pages;
 pub mod piped;

@@ -4,6 +4,7 @@ use crate::images::{mixed_code, page, whole};
 use crate::mixed::Mixed;
 use crate::pages::{ED_BEHIND, PAGES};
 use crate::plain::listing::listing;
+use crate::plain::Mode;
 use crate::stored::Row;
 
 /// The longest image that is listed, and what is printed for a longer one.
@@ -73,7 +74,8 @@ pub fn rows(image: &[u8]) -> Vec<Row> {
         let request = bytes.to_vec();
         Row { request, line }
     };
-    let listed = listing(image, 0).expect("an image that fits").into_iter();
+    let listed = listing(Mode::Rust, image, 0).expect("an image that fits");
+    let listed = listed.into_iter();
     listed.map(|row| row_of(row.passed, row.line)).collect()
 }
 

@@ -6,6 +6,7 @@ use crate::maps::entries::entry_maps;
 use crate::maps::full::{full_maps, rows_at_ends, sizes};
 use crate::maps::small::{broken_maps, damaged_maps, every_marking, grown_maps, random_maps};
 use crate::maps::{pairs, Drawn};
+use crate::plain::Mode;
 use crate::runs::Run;
 
 /// Document 01's maps: image and marks. The origin is 0, and so is the entry.
@@ -28,23 +29,32 @@ fn document_maps() -> impl Iterator<Item = Drawn> {
     })
 }
 
-fn run(maps: impl Iterator<Item = Drawn> + 'static) -> Run {
-    Box::new(maps.map(Calls::of_map))
+fn run(mode: Mode, maps: impl Iterator<Item = Drawn> + 'static) -> Run {
+    Box::new(maps.map(move |drawn| Calls::of_map(mode as u8, drawn)))
 }
 
-pub fn map_runs() -> Vec<(&'static str, Run)> {
+pub fn map_runs(mode: Mode) -> Vec<(&'static str, Run)> {
     vec![
-        ("document 01's maps", run(document_maps())),
-        ("every marking of 1 to 6 bytes", run(every_marking())),
-        ("every code of each page alone", run(lone_codes())),
-        ("every code of each page cut off", run(cut_codes())),
-        ("random marks", run(random_maps())),
-        ("grown maps", run(grown_maps())),
-        ("grown maps, one thing damaged", run(damaged_maps())),
-        ("two rules broken", run(broken_maps())),
-        ("0 to 65,537 entries", run(entry_maps())),
-        ("rows at both ends of all addresses", run(rows_at_ends())),
-        ("full maps, one thing damaged", run(full_maps())),
-        ("images of 0 to 65,537 bytes", run(sizes())),
+        ("document 01's maps", run(mode, document_maps())),
+        ("every marking of 1 to 6 bytes", run(mode, every_marking())),
+        ("every code of each page alone", run(mode, lone_codes(mode))),
+        (
+            "every code of each page cut off",
+            run(mode, cut_codes(mode)),
+        ),
+        ("random marks", run(mode, random_maps())),
+        ("grown maps", run(mode, grown_maps(mode))),
+        (
+            "grown maps, one thing damaged",
+            run(mode, damaged_maps(mode)),
+        ),
+        ("two rules broken", run(mode, broken_maps(mode))),
+        ("0 to 65,537 entries", run(mode, entry_maps())),
+        (
+            "rows at both ends of all addresses",
+            run(mode, rows_at_ends(mode)),
+        ),
+        ("full maps, one thing damaged", run(mode, full_maps(mode))),
+        ("images of 0 to 65,537 bytes", run(mode, sizes())),
     ]
 }

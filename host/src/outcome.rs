@@ -20,8 +20,10 @@ pub struct Lent {
     pub buffer: [u8; LOOKED_AT],
 }
 
-/// One call, with what stands in the lent places before it; of the buffer `room` bytes are lent.
+/// One call, in a mode or with a number that is none, with what stands in the lent places before it; of the buffer `room` bytes
+/// are lent.
 pub struct Call<'a> {
+    pub mode: u8,
     pub asked: &'a Asked<'a>,
     pub room: usize,
     pub before: Lent,
@@ -48,7 +50,7 @@ pub fn filled(k: usize) -> Lent {
 
 /// Where the room holds what the original says, that at the buffer's front and its numbers; else zeros and a refusal, with
 /// its address or its missing bytes where the function tells them. A refused decode has the empty record, where the room holds
-/// that.
+/// that; with a number that is no mode nothing is decoded.
 pub fn expected(call: &Call, said: &Said) -> Outcome {
     let mut lent = call.before;
     let (number, count, passed, address) = match &said.written {
@@ -60,12 +62,13 @@ pub fn expected(call: &Call, said: &Said) -> Outcome {
         Ok(_) => (Refusal::NoRoom as u8, 0, 0, 0),
         Err(refused) => (refused.refusal as u8, 0, 0, refused.address),
     };
+    let is_decoded = number != Refusal::BadMode as u8;
     match call.asked {
         Asked::Bytes(function, _) => {
             lent.missing = said.missing as u32;
             if *function != Function::Record {
                 lent.count = count as u32;
-            } else if said.written.is_err() && RECORD_SIZE <= call.room {
+            } else if said.written.is_err() && is_decoded && RECORD_SIZE <= call.room {
                 lent.buffer[..RECORD_SIZE].copy_from_slice(&EMPTY);
             }
         }
@@ -82,9 +85,11 @@ pub fn expected(call: &Call, said: &Said) -> Outcome {
 /// Where a call's outcome is not the expected one: the call and both outcomes.
 pub fn difference(call: &Call, expected: Outcome, found: Outcome) -> Option<String> {
     (found != expected).then(|| {
-        let Call { asked, room, .. } = call;
+        let Call {
+            mode, asked, room, ..
+        } = call;
         let (expected, found) = (shown(expected), shown(found));
-        format!("{asked}, room {room}\n  original {expected}\n  here     {found}")
+        format!("{asked}, mode {mode}, room {room}\n  expected {expected}\n  here     {found}")
     })
 }
 
@@ -102,8 +107,7 @@ fn shown(outcome: Outcome) -> String {
 #[cfg(test)]
 mod tests {
     use super::*;
-    use crate::arguments::Map;
-    use crate::arguments::Place;
+    use crate::arguments::{Map, Place, CHIP, RUST};
     use crate::function::{FULL_TEXT, PLAIN_TEXT};
     use crate::plain::said::said;
     use Function::{Record, Text};
@@ -141,31 +145,43 @@ mod tests {
     }
 
     fn outcome(asked: &Asked, room: usize) -> Outcome {
+        outcome_in(RUST, asked, room)
+    }
+
+    fn outcome_in(mode: u8, asked: &Asked, room: usize) -> Outcome {
         let before = filled(5);
         let call = Call {
+            mode,
             asked,
             room,
             before,
         };
-        expected(&call, &said(asked))
+        expected(&call, &said(mode, asked))
     }
 
     /// Whether a damage is seen with every function: where it is Done, in too small a room, and where the bytes are refused, in a
-    /// room for a record and in one that is too small.
+    /// room for a record and in one that is too small; and with a number that is no mode.
     fn is_seen(damage: impl Fn(&mut Outcome)) -> bool {
         let jump = &[0x18, 0x80][..];
-        let cases = [(jump, 56), (jump, 23), (&[], 56), (&[], 23)];
-        cases.iter().all(|&(bytes, room)| {
+        let cases = [
+            (RUST, jump, 56),
+            (RUST, jump, 23),
+            (CHIP, &[], 56),
+            (CHIP, &[], 23),
+            (2, jump, 56),
+        ];
+        cases.iter().all(|&(mode, bytes, room)| {
             each(bytes).iter().all(|asked| {
                 let before = filled(5);
                 let call = Call {
+                    mode,
                     asked,
                     room,
                     before,
                 };
-                let mut found = outcome(asked, room);
+                let mut found = outcome_in(mode, asked, room);
                 damage(&mut found);
-                difference(&call, outcome(asked, room), found).is_some()
+                difference(&call, outcome_in(mode, asked, room), found).is_some()
             })
         })
     }
@@ -276,6 +292,39 @@ mod tests {
                         ..filled(5)
                     };
                     assert_eq!((found.number, found.lent), (26, lent), "{ins:02X?}");
+                }
+            }
+        }
+    }
+
+    /// A number that is no mode is refused before a bad choice, the sizes of an image, the bytes and the room, with zeros for the
+    /// numbers that the function tells, and nothing else is written.
+    #[test]
+    fn bad_modes_by_hand() {
+        for mode in [2, 3, 255] {
+            for bytes in [&[][..], &[0xDD], &[0x00], &[0x00; 5]] {
+                for room in [0, 23, 24, 58] {
+                    let of_bytes = |function| Asked::Bytes(function, bytes.to_vec());
+                    let zeros = |zero: fn(&mut Lent)| {
+                        let mut lent = filled(5);
+                        zero(&mut lent);
+                        lent
+                    };
+                    let counted = zeros(|lent| (lent.count, lent.missing) = (0, 0));
+                    let cases = [
+                        (of_bytes(Record), zeros(|lent| lent.missing = 0)),
+                        (of_bytes(FULL_TEXT), counted),
+                        (of_bytes(Text(8)), counted),
+                        (
+                            front(bytes),
+                            zeros(|lent| (lent.count, lent.passed) = (0, 0)),
+                        ),
+                        (marked(bytes, &[1]), zeros(|lent| lent.address = 0)),
+                    ];
+                    for (asked, lent) in cases {
+                        let found = outcome_in(mode, &asked, room);
+                        assert_eq!((found.number, found.lent), (35, lent), "{asked}");
+                    }
                 }
             }
         }

@@ -1,6 +1,7 @@
 //! The stored requests of the program `replay`, and the original's answers to them.
 
 use crate::answer::{RECORD_SIZE, TEXT_MAX};
+use crate::arguments::RUST;
 use crate::asked::Asked;
 use crate::function::{Function, FULL_TEXT, PLAIN_TEXT};
 use crate::inputs;
@@ -8,6 +9,7 @@ use crate::outcome::{expected, Call, Lent, Outcome, LOOKED_AT};
 use crate::plain::missing::missing;
 use crate::plain::record::EMPTY;
 use crate::plain::said::{said, said_of_bytes};
+use crate::plain::Mode;
 use crate::rooms::rooms_around;
 use crate::stored::{distinct, padded, Row};
 use std::fmt::Write;
@@ -51,7 +53,7 @@ fn texts() -> Vec<Row> {
     }
     for ins in inputs::in_every_room() {
         for function in [PLAIN_TEXT, FULL_TEXT] {
-            let own = said_of_bytes(function, ins).map_or(0, |text| text.len());
+            let own = said_of_bytes(Mode::Rust, function, ins).map_or(0, |text| text.len());
             rows.extend((0..=own + 2).map(|room| text_row(function, ins, room)));
         }
     }
@@ -68,7 +70,7 @@ fn other_texts() -> Vec<Row> {
     }
     for ins in inputs::in_every_room().chain([&[][..]]) {
         for function in OTHERS {
-            let rooms = rooms_around(function, ins).into_iter();
+            let rooms = rooms_around(Mode::Rust, function, ins).into_iter();
             rows.extend(rooms.map(|room| text_row(function, ins, room.into())));
         }
     }
@@ -77,11 +79,11 @@ fn other_texts() -> Vec<Row> {
 
 /// The line of a record: bytes, number, missing bytes, the record's bytes, which are the empty one's where the number is not 0.
 fn record_row(ins: &[u8]) -> Row {
-    let (number, record) = match said_of_bytes(Function::Record, ins) {
+    let (number, record) = match said_of_bytes(Mode::Rust, Function::Record, ins) {
         Ok(record) => (0, record),
         Err(refusal) => (refusal as u8, EMPTY.to_vec()),
     };
-    let mut line = format!("{}{number} {}", shown(ins), missing(ins));
+    let mut line = format!("{}{number} {}", shown(ins), missing(Mode::Rust, ins));
     for byte in record {
         write!(line, " {byte:02X}").unwrap();
     }
@@ -96,6 +98,7 @@ fn record_row(ins: &[u8]) -> Row {
 fn text_row(function: Function, ins: &[u8], room: usize) -> Row {
     let asked = Asked::Bytes(function, ins.to_vec());
     let call = Call {
+        mode: RUST,
         asked: &asked,
         room,
         before: Lent {
@@ -106,7 +109,7 @@ fn text_row(function: Function, ins: &[u8], room: usize) -> Row {
             buffer: [b'.'; LOOKED_AT],
         },
     };
-    let Outcome { number, lent, .. } = expected(&call, &said(&asked));
+    let Outcome { number, lent, .. } = expected(&call, &said(RUST, &asked));
     let numbers = format!("{}{number} {} {} ", shown(ins), lent.missing, lent.count);
     Row {
         request: request(function, room, ins),

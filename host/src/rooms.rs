@@ -3,6 +3,7 @@
 use crate::answer::TEXT_MAX;
 use crate::function::Function;
 use crate::plain::said::said_of_bytes;
+use crate::plain::Mode;
 
 /// More than the longest text.
 const AMPLE: u8 = 56;
@@ -25,8 +26,8 @@ pub fn enough_room(function: Function, k: usize) -> Vec<u8> {
 }
 
 /// None, one too few, exactly enough and one more for what is to be written of these bytes, and room for any text.
-pub fn rooms_around(function: Function, ins: &[u8]) -> Vec<u8> {
-    let own = said_of_bytes(function, ins).map_or(0, |said| said.len() as u8);
+pub fn rooms_around(mode: Mode, function: Function, ins: &[u8]) -> Vec<u8> {
+    let own = said_of_bytes(mode, function, ins).map_or(0, |said| said.len() as u8);
     let mut rooms = vec![0, own.saturating_sub(1), own, own + 1, AMPLE];
     rooms.dedup();
     rooms
@@ -38,7 +39,7 @@ mod tests {
 
     #[test]
     fn around_by_hand() {
-        let around = |choice| rooms_around(Function::Text(choice), &[0x18, 0x80]);
+        let around = |choice| rooms_around(Mode::Rust, Function::Text(choice), &[0x18, 0x80]);
         assert_eq!(around(0), [0, 1, AMPLE]);
         assert_eq!(around(1), [0, 7, 8, 9, AMPLE]);
         assert_eq!(around(7), [0, 33, 34, 35, AMPLE]);

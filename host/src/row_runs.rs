@@ -6,6 +6,7 @@ use crate::calls::{About, Calls, Places};
 use crate::images::{mixed_code, page, whole};
 use crate::mixed::Mixed;
 use crate::pages::{ED_BEHIND, PAGES};
+use crate::plain::Mode;
 use crate::runs::Run;
 
 /// Lengths of images that are tried in every room, and in one.
@@ -45,26 +46,27 @@ fn origins(length: usize) -> Vec<u16> {
 }
 
 /// The rows of an image at an origin: in and around it, and at both ends of all addresses.
-fn rows(image: &[u8], origin: u16) -> [Calls; 2] {
+fn rows(mode: Mode, image: &[u8], origin: u16) -> [Calls; 2] {
     let first = origin.wrapping_sub(AROUND as u16);
     let count = ADDRESSES.min(AROUND + image.len() + AROUND);
     [(first, count), (u16::MAX, 2)].map(|(first, count)| Calls {
+        mode: mode as u8,
         rooms: rooms(image.len()),
         about: About::Places(Places::new(image, origin, first, count as u32)),
     })
 }
 
 /// Each image at each of the origins that are chosen for its length.
-fn at(origins: fn(usize) -> Vec<u16>, images: Vec<Vec<u8>>) -> Run {
+fn at(mode: Mode, origins: fn(usize) -> Vec<u16>, images: Vec<Vec<u8>>) -> Run {
     Box::new(images.into_iter().flat_map(move |image| {
         let origins = origins(image.len()).into_iter();
-        origins.flat_map(move |origin| rows(&image, origin))
+        origins.flat_map(move |origin| rows(mode, &image, origin))
     }))
 }
 
 /// At its last origin, where no address is left behind the image.
-fn at_last(images: Vec<Vec<u8>>) -> Run {
-    at(|length| vec![last(length) as u16], images)
+fn at_last(mode: Mode, images: Vec<Vec<u8>>) -> Run {
+    at(mode, |length| vec![last(length) as u16], images)
 }
 
 /// The image with a cut row put over its end, or as much of that as it holds.
@@ -121,19 +123,31 @@ fn of_pages() -> Vec<Vec<u8>> {
     pages.map(|prefix| page(prefix, &mut mixed)).collect()
 }
 
-pub fn row_runs() -> Vec<(&'static str, Run)> {
+pub fn row_runs(mode: Mode) -> Vec<(&'static str, Run)> {
     let small = of_lengths(&SMALL);
     let large = of_lengths(&LARGE);
     vec![
         (
             "images of 0 and 65,537 bytes",
-            at(origins, of_wrong_lengths()),
+            at(mode, origins, of_wrong_lengths()),
         ),
-        ("images of 1 to 777 bytes, every room", at(origins, small)),
-        ("every first byte, every room", at_last(of_first_bytes())),
-        ("cut rows of every page, every room", at_last(of_cut_rows())),
-        ("every code of each page, every room", at_last(of_pages())),
-        ("images of 4,096 to 65,536 bytes", at(origins, large)),
+        (
+            "images of 1 to 777 bytes, every room",
+            at(mode, origins, small),
+        ),
+        (
+            "every first byte, every room",
+            at_last(mode, of_first_bytes()),
+        ),
+        (
+            "cut rows of every page, every room",
+            at_last(mode, of_cut_rows()),
+        ),
+        (
+            "every code of each page, every room",
+            at_last(mode, of_pages()),
+        ),
+        ("images of 4,096 to 65,536 bytes", at(mode, origins, large)),
     ]
 }
 

@@ -4,6 +4,7 @@ pub mod source;
 
 use crate::original::disas;
 use crate::plain::listing::{listing, window};
+use crate::plain::Mode;
 use source::{Row, Source};
 
 pub fn image(source: &Source) -> Vec<u8> {
@@ -76,6 +77,6 @@ fn instruction(image: &[u8], row: &Row) -> Result<String, String> {
 
 /// What is printed for an image at origin 0.
 pub fn printed(image: &[u8]) -> Vec<u8> {
-    let rows = listing(image, 0).expect("an image that fits");
+    let rows = listing(Mode::Rust, image, 0).expect("an image that fits");
     rows.into_iter().flat_map(|row| row.line).collect()
 }

@@ -1,6 +1,7 @@
 //! The program `replay_staged`, which runs the stages: what it is asked, and what the original has it write.
 
 use crate::answer::RECORD_SIZE;
+use crate::arguments::RUST;
 use crate::asked::Asked;
 use crate::calls::Inputs;
 use crate::function::Function::Record;
@@ -55,6 +56,7 @@ pub fn request(inputs: &Inputs) -> Vec<u8> {
 /// An input as a call of `z80_record` in just the room for a record.
 pub fn call<'a>(asked: &'a Asked) -> Call<'a> {
     Call {
+        mode: RUST,
         asked,
         room: RECORD_SIZE,
         before: lent(0, &[0; RECORD_SIZE]),
@@ -72,7 +74,7 @@ pub fn outcome([number, missing, record @ ..]: [u8; OUTCOME_SIZE]) -> Outcome {
 
 /// What the original has it write.
 fn written(asked: &Asked) -> Vec<u8> {
-    let Outcome { number, lent, .. } = expected(&call(asked), &said(asked));
+    let Outcome { number, lent, .. } = expected(&call(asked), &said(RUST, asked));
     let numbers = [number, lent.missing as u8];
     [&numbers, &lent.buffer[..RECORD_SIZE]].concat()
 }
@@ -139,7 +141,7 @@ mod tests {
     /// Whether what the program wrote is told from what the original says.
     fn is_seen(asked: &Asked, written: [u8; OUTCOME_SIZE]) -> bool {
         let call = call(asked);
-        let expected = expected(&call, &said(asked));
+        let expected = expected(&call, &said(RUST, asked));
         difference(&call, expected, outcome(written)).is_some()
     }
 

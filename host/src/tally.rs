@@ -3,12 +3,15 @@
 use crate::answer::{name, Refusal};
 use crate::asked::Asked;
 use crate::outcome::{difference, Call, Outcome};
+use crate::plain::Mode;
 
 /// Differences past these are counted and not shown.
 const SHOWN: usize = 10;
 
 /// The last of the answer numbers.
-const LAST: usize = Refusal::BadChoice as usize;
+const LAST: usize = Refusal::BadMode as usize;
+
+const BAD_CHOICE: usize = Refusal::BadChoice as usize;
 
 /// Besides these: of a Short input, or of a row that is Done although its bytes are Short, one to three are missing.
 const ONE_MISSING: usize = LAST + 1;
@@ -21,13 +24,33 @@ const KINDS: usize = THREE_MISSING + 1;
 pub const OF_BYTES: [usize; 8] = [0, 1, 2, 3, 4, ONE_MISSING, TWO_MISSING, THREE_MISSING];
 
 /// What `z80_text` may answer.
-pub const OF_CHOICES: [usize; 9] = [0, 1, 2, 3, 4, LAST, ONE_MISSING, TWO_MISSING, THREE_MISSING];
+pub const OF_CHOICES: [usize; 9] = [
+    0,
+    1,
+    2,
+    3,
+    4,
+    BAD_CHOICE,
+    ONE_MISSING,
+    TWO_MISSING,
+    THREE_MISSING,
+];
 
 /// What `z80_row` may answer.
 pub const OF_ROWS: [usize; 7] = [0, 1, 4, 5, ONE_MISSING, TWO_MISSING, THREE_MISSING];
 
 /// What `z80_map_check` may answer.
 pub const OF_MAPS: [usize; 10] = [0, 5, 6, 7, 8, 9, 10, 11, 12, 13];
+
+/// What every function answers with a number that is no mode.
+pub const OF_OTHER_MODES: [usize; 1] = [LAST];
+
+/// Those of some answers that there are in a mode: in the chip's no input lacks three bytes.
+pub fn answers_in(mode: Mode, of: &[usize]) -> Vec<usize> {
+    let answers = of.iter().copied();
+    let in_mode = |kind: &usize| mode == Mode::Rust || *kind != THREE_MISSING;
+    answers.filter(in_mode).collect()
+}
 
 /// How a kind of answer is printed.
 fn shown(kind: usize) -> String {
@@ -37,11 +60,20 @@ fn shown(kind: usize) -> String {
     }
 }
 
-#[derive(Default)]
 pub struct Tally {
     pub calls: usize,
     pub differing: usize,
     met: [usize; KINDS],
+}
+
+impl Default for Tally {
+    fn default() -> Tally {
+        Tally {
+            calls: 0,
+            differing: 0,
+            met: [0; KINDS],
+        }
+    }
 }
 
 impl Tally {
@@ -89,9 +121,10 @@ fn told_missing(call: &Call, expected: &Outcome) -> usize {
 #[cfg(test)]
 mod tests {
     use super::*;
-    use crate::arguments::Place;
+    use crate::arguments::{Place, CHIP, RUST};
     use crate::function::Function;
     use crate::outcome::{expected, filled};
+    use crate::plain::missing::missing;
     use crate::plain::said::said;
 
     /// Adds a row at 1000 of an image from there on; whether a difference is shown.
@@ -103,11 +136,12 @@ mod tests {
             address,
         });
         let call = Call {
+            mode: RUST,
             asked: &asked,
             room,
             before: filled(0),
         };
-        let expected = expected(&call, &said(&asked));
+        let expected = expected(&call, &said(RUST, &asked));
         let mut found = expected;
         found.lent.passed += damage;
         tally.add(&call, expected, found).is_some()
@@ -136,13 +170,14 @@ mod tests {
     }
 
     /// Counts what is asked, in no room, where what is found is what is expected.
-    fn add_met(tally: &mut Tally, asked: &Asked) {
+    fn add_met(tally: &mut Tally, mode: u8, asked: &Asked) {
         let call = Call {
+            mode,
             asked,
             room: 0,
             before: filled(0),
         };
-        let expected = expected(&call, &said(asked));
+        let expected = expected(&call, &said(mode, asked));
         assert_eq!(tally.add(&call, expected, expected), None);
     }
 
@@ -152,7 +187,7 @@ mod tests {
         let mut tally = Tally::default();
         for ins in [&[0xDD][..], &[0xED], &[0xED, 0x43], &[0x00], &[]] {
             let asked = Asked::Bytes(Function::Record, ins.to_vec());
-            add_met(&mut tally, &asked);
+            add_met(&mut tally, RUST, &asked);
         }
         assert_eq!(
             tally.counts(),
@@ -160,13 +195,26 @@ mod tests {
         );
     }
 
-    /// A choice that is none is counted as that alone, though the bytes are Short.
+    /// A choice that is none is counted as that alone, though the bytes are Short, and so is a mode before it.
     #[test]
     fn counted_by_choice() {
         let mut tally = Tally::default();
         let asked = Asked::Bytes(Function::Text(8), vec![0xDD]);
-        add_met(&mut tally, &asked);
+        add_met(&mut tally, CHIP, &asked);
         assert_eq!(tally.counts(), "26 BadChoice: 1");
+        add_met(&mut tally, 2, &asked);
+        assert_eq!(tally.counts(), "26 BadChoice: 1, 35 BadMode: 1");
+        assert!(tally.missing(&OF_OTHER_MODES, 1).is_empty());
+    }
+
+    /// In the chip's mode no byte lacks three, and of more bytes none can; in the Rust's DD does.
+    #[test]
+    fn answers_by_mode() {
+        let lacking = |mode| (0..=0xFF).map(move |byte| missing(mode, &[byte]));
+        assert_eq!(lacking(Mode::Chip).max(), Some(2));
+        assert_eq!(lacking(Mode::Rust).max(), Some(3));
+        assert_eq!(answers_in(Mode::Rust, &OF_ROWS), OF_ROWS);
+        assert_eq!(answers_in(Mode::Chip, &OF_ROWS), OF_ROWS[..6]);
     }
 
     #[test]

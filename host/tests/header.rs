@@ -1,7 +1,7 @@
 //! The constants of the C header held to those of Rust.
 
 use host::answer::{name, LINE_MAX, RECORD_SIZE, TEXT_MAX};
-use host::arguments::{BYTES, DATA, FULL, INSIDE, INSTRUCTION, PLAIN, START, TIMES};
+use host::arguments::{BYTES, CHIP, DATA, FULL, INSIDE, INSTRUCTION, PLAIN, RUST, START, TIMES};
 use std::collections::BTreeMap;
 use std::fs;
 
@@ -35,6 +35,8 @@ fn constants_are_those_of_rust() {
         ("RECORD_SIZE", RECORD_SIZE),
         ("TEXT_MAX", TEXT_MAX),
         ("LINE_MAX", LINE_MAX),
+        ("RUST", RUST.into()),
+        ("CHIP", CHIP.into()),
         ("BYTES", BYTES.into()),
         ("INSTRUCTION", INSTRUCTION.into()),
         ("TIMES", TIMES.into()),
@@ -46,6 +48,6 @@ fn constants_are_those_of_rust() {
     ];
     let others = others.map(|(name, number)| (name.to_owned(), number));
     let expected: BTreeMap<String, usize> = answers.chain(others).collect();
-    assert_eq!(expected.len(), 26);
+    assert_eq!(expected.len(), 29);
     assert_eq!(constants(), expected);
 }

@@ -2,6 +2,7 @@
 
 use host::arguments::Map;
 use host::plain::marking::judged;
+use host::plain::Mode;
 use host::sample::source::Source;
 use host::sample::{entries, hold_texts, image, marks, printed};
 use std::fs;
@@ -114,7 +115,7 @@ fn said(image: &[u8], marks: &[u8], entries: &[u8]) -> (u8, usize) {
         marks,
         entries,
     };
-    match judged(&map) {
+    match judged(Mode::Rust, &map) {
         Ok(()) => (0, 0),
         Err(refused) => (refused.refusal as u8, refused.address as usize),
     }

@@ -6,9 +6,9 @@ use host::function::Function::Record;
 use host::function::{FULL_TEXT, PLAIN_TEXT};
 use host::original::disas;
 use host::pages::{edged, ED_BEHIND, PAGES};
-use host::plain::decoded;
 use host::plain::missing::missing;
 use host::plain::said::said_of_bytes;
+use host::plain::{decoded, Mode, MODES};
 use std::panic::catch_unwind;
 
 /// The row; its bytes; length and instruction, three operand places, data, T-states, machine cycles, row times.
@@ -38,12 +38,18 @@ fn bytes(text: &str) -> Vec<u8> {
 fn starred_rows() {
     for row in STARRED_DONE.lines() {
         let fields: Vec<&str> = row.split('|').collect();
-        let said = said_of_bytes(Record, &bytes(fields[1]));
+        let said = said_of_bytes(Mode::Rust, Record, &bytes(fields[1]));
         assert_eq!(said, Ok(bytes(fields[2])), "{row}");
     }
-    assert_eq!(decoded(&[0xDD, 0x23, 0x00]), Err(Refusal::Short));
-    assert_eq!(decoded(&[0xED, 0x00, 0x00]), Err(Refusal::Short));
-    assert_eq!(decoded(&[0; 5]), Err(Refusal::Long));
+    assert_eq!(
+        decoded(Mode::Rust, &[0xDD, 0x23, 0x00]),
+        Err(Refusal::Short)
+    );
+    assert_eq!(
+        decoded(Mode::Rust, &[0xED, 0x00, 0x00]),
+        Err(Refusal::Short)
+    );
+    assert_eq!(decoded(Mode::Rust, &[0; 5]), Err(Refusal::Long));
 }
 
 /// A row's bytes and its plain text, a tab written as >.
@@ -69,12 +75,12 @@ fn texts() {
         let plain = text.trim_start().replace('>', "\t");
         let full = format!("{} \t\t{plain}", ins.trim_end());
         assert_eq!(
-            said_of_bytes(PLAIN_TEXT, &bytes(ins)),
+            said_of_bytes(Mode::Rust, PLAIN_TEXT, &bytes(ins)),
             Ok(plain.into_bytes()),
             "{row}"
         );
         assert_eq!(
-            said_of_bytes(FULL_TEXT, &bytes(ins)),
+            said_of_bytes(Mode::Rust, FULL_TEXT, &bytes(ins)),
             Ok(full.into_bytes()),
             "{row}"
         );
@@ -85,15 +91,17 @@ fn texts() {
 fn longest_text() {
     let pages = PAGES.iter().chain(&ED_BEHIND);
     let inputs = pages.flat_map(|prefix| edged(prefix, 4));
-    let lengths = inputs.map(|ins| said_of_bytes(FULL_TEXT, &ins).unwrap().len());
+    let lengths = inputs.map(|ins| said_of_bytes(Mode::Rust, FULL_TEXT, &ins).unwrap().len());
     assert_eq!(lengths.max(), Some(TEXT_MAX));
 }
 
-/// The bytes that document 01 asks for before a row is decided.
-fn needed(first: u8, second: u8) -> usize {
+/// The bytes that document 01 asks for before a row is decided, in the chip's mode document 02.
+fn needed(mode: Mode, first: u8, second: u8) -> usize {
     match first {
+        0xDD | 0xFD if mode == Mode::Chip => needed_behind_prefix(second),
         0xDD | 0xFD => 4,
         0xED if ed_row_of_two(second) => 2,
+        0xED if mode == Mode::Chip && second & 0xC7 != 0x43 => 2,
         0xED => 4,
         // CB; DJNZ and JR; OUT and IN with (n); LD r,n; arithmetic with n
         0xCB | 0x10 | 0x18 | 0x20 | 0x28 | 0x30 | 0x38 | 0xD3 | 0xDB => 2,
@@ -102,6 +110,19 @@ fn needed(first: u8, second: u8) -> usize {
         0x01 | 0x11 | 0x21 | 0x31 | 0x22 | 0x2A | 0x32 | 0x3A | 0xC3 | 0xCD => 3,
         _ if matches!(first & 0xC7, 0xC2 | 0xC4) => 3,
         _ => 1,
+    }
+}
+
+/// Those of a row behind DD or FD in the chip's mode: its own; of one that the prefix does not change the prefix and a look at it.
+fn needed_behind_prefix(second: u8) -> usize {
+    match second {
+        // DD CB; LD IX,nn; IX with (nn); LD (IX+d),n
+        0xCB | 0x21 | 0x22 | 0x2A | 0x36 => 4,
+        // LD IXh,n, LD IXl,n; INC and DEC (IX+d); LD and arithmetic with (IX+d), but for HALT
+        0x26 | 0x2E | 0x34 | 0x35 | 0x70..=0x75 | 0x77 => 3,
+        0x76 => 2,
+        0x40..=0xBF if second & 0x07 == 0x06 => 3,
+        _ => 2,
     }
 }
 
@@ -117,29 +138,30 @@ fn ed_row_of_two(code: u8) -> bool {
 
 #[test]
 fn short_exactly_below_the_bytes_needed() {
-    for first in 0..=0xFF {
-        for second in 0..=0xFF {
+    for mode in MODES {
+        for (first, second) in (0..=0xFF).flat_map(|first| (0..=0xFF).map(move |b| (first, b))) {
             for (length, rest) in [(1, 0x00), (2, 0x00), (3, 0x00), (3, 0xFF), (4, 0xFF)] {
                 let ins = &[first, second, rest, rest][..length];
-                let short = length < needed(first, second);
-                let refused = decoded(ins) == Err(Refusal::Short);
+                let short = length < needed(mode, first, second);
+                let refused = decoded(mode, ins) == Err(Refusal::Short);
                 assert_eq!(refused, short, "{ins:02X?}");
             }
         }
     }
 }
 
-/// Those that some choice of the bytes to come asks for: behind ED alone it is the code that decides, and two are the fewest.
-fn fewest_needed(ins: &[u8]) -> usize {
+/// Those that some choice of the bytes to come asks for: behind ED alone it is the code that decides, and two are the fewest. Behind
+/// DD and FD alone zero is a code that they do not change.
+fn fewest_needed(mode: Mode, ins: &[u8]) -> usize {
     match ins {
         [] => 0,
         [0xED] => 2,
-        [first] => needed(*first, 0x00),
-        [first, second, ..] => needed(*first, *second),
+        [first] => needed(mode, *first, 0x00),
+        [first, second, ..] => needed(mode, *first, *second),
     }
 }
 
-/// Document 02's number, which is found by trying, on every input of one to three bytes.
+/// Document 02's number, which is found by trying, on every input of one to three bytes in both modes.
 #[test]
 fn missing_up_to_the_bytes_needed() {
     for bytes in 0..1_u32 << 24 {
@@ -150,16 +172,20 @@ fn missing_up_to_the_bytes_needed() {
             _ => 3..=3,
         };
         for ins in lengths.map(|length| &three[..length]) {
-            let lacking = fewest_needed(ins).saturating_sub(ins.len());
-            assert_eq!(missing(ins), lacking, "{ins:02X?}");
+            for mode in MODES {
+                let lacking = fewest_needed(mode, ins).saturating_sub(ins.len());
+                assert_eq!(missing(mode, ins), lacking, "{mode:?} {ins:02X?}");
+            }
         }
     }
 }
 
 #[test]
 fn nothing_for_no_bytes() {
-    assert_eq!(decoded(&[]), Err(Refusal::Nothing));
-    assert_eq!(missing(&[]), 0);
+    for mode in MODES {
+        assert_eq!(decoded(mode, &[]), Err(Refusal::Nothing));
+        assert_eq!(missing(mode, &[]), 0);
+    }
 }
 
 /// What document 01 says of the original beside its numbers 1 and 3.

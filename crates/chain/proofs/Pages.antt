@@ -36,7 +36,7 @@ abbrev pub leads : ℕ → Bool
 leads b = eqb b 0xCB || eqb b 0xED
 
 -- two functions that agree on the lines of a page, and where there is none, agree at every code
-by-line : {A : Type 0} (f g : Row → A) (page : List Row) → map f page ≡ map g page → f gap ≡ g gap → (k : ℕ) → f (getD page k gap) ≡ g (getD page k gap)
+pub by-line : {A : Type 0} (f g : Row → A) (page : List Row) → map f page ≡ map g page → f gap ≡ g gap → (k : ℕ) → f (getD page k gap) ≡ g (getD page k gap)
 by-line f g [] e none k = none
 by-line {A} f g (x ∷ xs) e none zero = ap (λ (l : List A). getD l 0 (f gap)) e
 by-line {A} f g (x ∷ xs) e none (suc k) = by-line f g xs (ap (λ (l : List A). drop 1 l) e) none k

@@ -12,12 +12,14 @@ use Rattle.opcode.specs.declared.operand.Place.{Place}
 use Rattle.opcode.specs.declared.record.OpCode.{OpCode}
 use Rattle.table.specs.declared.Answer.{Answer}
 use Rattle.table.specs.declared.Decoded.{Decoded}
+use Rattle.table.specs.declared.Mode.{Mode}
 use Rattle.table.specs.Row.{ix, iy, Row, row, gap, read}
 use Rattle.table.specs.Plain.{plain}
 use Rattle.table.specs.Cb.{cb}
 use Rattle.table.specs.Ed.{ed}
-use Rattle.table.specs.Decode.{rowOf, operandBytes, recordOf, four, rust, decodeOf}
-use Rattle.table.proofs.Rows.{Everywhere, row-holds}
+use Rattle.table.specs.Decode.{operandBytes, recordOf, four}
+use Rattle.table.specs.Chip.{readingOf, decodeIn}
+use Rattle.table.proofs.Rows.{Everywhere, mode-row-holds}
 use Rattle.table.proofs.Done.{decides}
 use Rattle.marking.specs.declared.Flow.{Flow}
 use Rattle.flow.specs.Flow.{leadOf, flowBy, flowOf}
@@ -56,6 +58,9 @@ module _ (a : ℕ) (s : List ℕ) where
         load = λ i. elim i [ ix ↦ tt | iy ↦ tt ];
         no-bit = λ i. tt;
         on-bit = λ i. elim i [ ix ↦ tt | iy ↦ tt ];
+        chip-none = (tt, tt);
+        chip-plain = λ i. elim i [ ix ↦ tt | iy ↦ tt ];
+        chip-ed = tt;
       }
 
   of-row : (x : Row) (d : List ℕ) → T (tells x) → flowOf a (recordOf x s d) ≡ Flow.RegisterJump → ByRegister (recordOf x s d)
@@ -67,9 +72,12 @@ module _ (a : ℕ) (s : List ℕ) where
         pointer = both-right (eqb (tagOf the-type i) 27) (hasPointer (read x s)) v;
       }
 
-pub register-jumps : (a : ℕ) (s : List ℕ) → decodeOf s .answer ≡ Answer.Done → flowOf a (decodeOf s .rec) ≡ Flow.RegisterJump → ByRegister (decodeOf s .rec)
-unfolding decodeOf
-register-jumps a s done e =
-    let made : decodeOf s .rec ≡ recordOf (rowOf s) (operandBytes s) (four s) = ap (λ (u : Decoded). u .rec) (decides rust s done .made) in
+pub register-jumps :
+    (mode : Mode) (a : ℕ) (s : List ℕ) → decodeIn mode s .answer ≡ Answer.Done → flowOf a (decodeIn mode s .rec) ≡ Flow.RegisterJump
+    → ByRegister (decodeIn mode s .rec)
+unfolding decodeIn
+register-jumps mode a s done e =
+    let x = readingOf mode .row s in
+    let made : decodeIn mode s .rec ≡ recordOf x (operandBytes s) (four s) = ap (λ (u : Decoded). u .rec) (decides (readingOf mode) s done .made) in
     subst ByRegister (sym made)
-    (of-row a (operandBytes s) (rowOf s) (four s) (row-holds (tells a (operandBytes s)) (all-tell a (operandBytes s)) s) (subst (λ (o : OpCode). flowOf a o ≡ Flow.RegisterJump) made e))
+    (of-row a (operandBytes s) x (four s) (mode-row-holds (tells a (operandBytes s)) (all-tell a (operandBytes s)) mode s) (subst (λ (o : OpCode). flowOf a o ≡ Flow.RegisterJump) made e))

@@ -14,6 +14,7 @@ use line::LINE_MAX;
 use line::passed;
 use line::put_line;
 use listing::Listed;
+use table::Mode;
 use window::decode_at;
 use writer::give;
 
@@ -24,13 +25,13 @@ struct Put {
 }
 
 // The row at a place of the image.
-fn put_row(image: &[u8], origin: u16, place: usize, buf: &mut [u8], at: usize) -> Put
+fn put_row(mode: Mode, image: &[u8], origin: u16, place: usize, buf: &mut [u8], at: usize) -> Put
     requires { ⌜ place < length (now image) ⌝ }
     requires { ⌜ origin + length (now image) ≤ 65536 ⌝ }
-    ensures wrote { λ r. ⌜ Wrote (now (buf .entry)) at (lineOf (origin + place) (window (drop place (now (image .entry))))) (now (buf .exit)) (r .next) ⌝ }
-    ensures passed { λ r. ⌜ r .passed ≡ passedOf (window (drop place (now (image .entry)))) ⌝ }
+    ensures wrote { λ r. ⌜ Wrote (now (buf .entry)) at (lineOf mode (origin + place) (window (drop place (now (image .entry))))) (now (buf .exit)) (r .next) ⌝ }
+    ensures passed { λ r. ⌜ r .passed ≡ passedOf mode (window (drop place (now (image .entry)))) ⌝ }
 {
-    let decoded = decode_at(image, place);
+    let decoded = decode_at(mode, image, place);
     let address = origin + place as u16;
     let next = put_line(buf, at, address, decoded, image[place]);
     Put {
@@ -39,10 +40,10 @@ fn put_row(image: &[u8], origin: u16, place: usize, buf: &mut [u8], at: usize) -
     }
 }
 
-// The row at an address of the image, whose first byte stands at `origin`: its line to the front of `out`. It is made in a place
-// of its own, so that nothing is written where it does not fit.
-pub fn row(image: &[u8], origin: u16, address: u16, out: &mut [u8]) -> Listed
-    ensures { λ r. ⌜ toldBy r (now (out .exit)) ≡ rowOutcome (now (image .entry)) origin address (now (out .entry)) ⌝ }
+// The row at an address of the image, whose first byte stands at `origin`, in a mode: its line to the front of `out`. It is made
+// in a place of its own, so that nothing is written where it does not fit.
+pub fn row(mode: Mode, image: &[u8], origin: u16, address: u16, out: &mut [u8]) -> Listed
+    ensures { λ r. ⌜ toldBy r (now (out .exit)) ≡ rowOutcome mode (now (image .entry)) origin address (now (out .entry)) ⌝ }
 {
     if is_wrong_size(image, origin) {
         return Listed::ImageSize;
@@ -52,7 +53,7 @@ pub fn row(image: &[u8], origin: u16, address: u16, out: &mut [u8]) -> Listed
     }
     let mut line = [0u8; LINE_MAX];
     let place = (address - origin) as usize;
-    let put = put_row(image, origin, place, &mut line, 0);
+    let put = put_row(mode, image, origin, place, &mut line, 0);
     let count = put.next;
     if give(&line[0..count], out) {
         return Listed::Done {
@@ -64,22 +65,22 @@ pub fn row(image: &[u8], origin: u16, address: u16, out: &mut [u8]) -> Listed
 }
 
 // Whether the line of the row at a place has that much room; one that has room for the longest is not made for it.
-fn has_room(image: &[u8], origin: u16, place: usize, room: usize) -> bool
+fn has_room(mode: Mode, image: &[u8], origin: u16, place: usize, room: usize) -> bool
     requires { ⌜ place < length (now image) ⌝ }
     requires { ⌜ origin + length (now image) ≤ 65536 ⌝ }
-    ensures { λ b. ⌜ b ≡ leb (length (lineOf (origin + place) (window (drop place (now (image .entry)))))) room ⌝ }
+    ensures { λ b. ⌜ b ≡ leb (length (lineOf mode (origin + place) (window (drop place (now (image .entry)))))) room ⌝ }
 {
     if LINE_MAX <= room {
         return true;
     }
     let mut line = [0u8; LINE_MAX];
-    let put = put_row(image, origin, place, &mut line, 0);
+    let put = put_row(mode, image, origin, place, &mut line, 0);
     put.next <= room
 }
 
 // The rows from an address on, as many whole lines as fit: their lines to the front of `out`, one behind the other.
-pub fn rows(image: &[u8], origin: u16, address: u16, out: &mut [u8]) -> Listed
-    ensures { λ r. ⌜ toldBy r (now (out .exit)) ≡ rowsOutcome (now (image .entry)) origin address (now (out .entry)) ⌝ }
+pub fn rows(mode: Mode, image: &[u8], origin: u16, address: u16, out: &mut [u8]) -> Listed
+    ensures { λ r. ⌜ toldBy r (now (out .exit)) ≡ rowsOutcome mode (now (image .entry)) origin address (now (out .entry)) ⌝ }
 {
     if is_wrong_size(image, origin) {
         return Listed::ImageSize;
@@ -90,8 +91,8 @@ pub fn rows(image: &[u8], origin: u16, address: u16, out: &mut [u8]) -> Listed
     let start = (address - origin) as usize;
     let mut next = 0;
     let mut place = start;
-    while place < image.len() && has_room(image, origin, place, out.len() - next) {
-        let put = put_row(image, origin, place, out, next);
+    while place < image.len() && has_room(mode, image, origin, place, out.len() - next) {
+        let put = put_row(mode, image, origin, place, out, next);
         let passed = put.passed;
         next = put.next;
         place += passed;

@@ -6,6 +6,7 @@ use libc::STDIN_FILENO;
 use libc::STDOUT_FILENO;
 use listing::Listed;
 use rom::rows;
+use table::Mode;
 
 // The longest image that is listed.
 const IMAGE_MAX: usize = 32768;
@@ -67,7 +68,7 @@ fn print_page(image: &[u8], place: usize, page: &mut [u8]) -> usize
     requires { ⌜ length (now image) ≤ 32768 ⌝ }
     ensures { λ r. ⌜ place + r ≤ length (now (image .entry)) ⌝ }
 {
-    let listed = rows(image, 0, place as u16, page);
+    let listed = rows(Mode::Rust, image, 0, place as u16, page);
     match listed {
         Listed::Done { count, passed } => {
             if is_written(&page[0..count]) {

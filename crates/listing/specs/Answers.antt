@@ -4,6 +4,7 @@ use mathlib.Core.Bool.{cond}
 use mathlib.Core.List.{List, _++_}
 use lib.Dec.{leb}
 use lib.ListN.{length, drop}
+use Rattle.table.specs.declared.Mode.{Mode}
 use Rattle.listing.specs.declared.Listed.{Listed}
 use Rattle.image.specs.Places.{wrongSize, outside, windowAt}
 use Rattle.listing.specs.Rows.{lineOf, passedOf}
@@ -48,8 +49,8 @@ abbrev pub given : List ℕ → ℕ → List ℕ → Outcome
 given line p out = cond (leb (length line) (length out)) (outcome 0 (length line) p (line ++ drop (length line) out)) (outcome 4 0 0 out)
 
 -- 5 and 1 before that; these leave the lent bytes as they were
-abbrev pub rowOutcome : List ℕ → ℕ → ℕ → List ℕ → Outcome
-rowOutcome image origin address out =
+abbrev pub rowOutcome : Mode → List ℕ → ℕ → ℕ → List ℕ → Outcome
+rowOutcome mode image origin address out =
     cond (wrongSize image origin) (outcome 5 0 0 out)
     (cond (outside image origin address) (outcome 1 0 0 out)
-    (given (lineOf address (windowAt image origin address)) (passedOf (windowAt image origin address)) out))
+    (given (lineOf mode address (windowAt image origin address)) (passedOf mode (windowAt image origin address)) out))

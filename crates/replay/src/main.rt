@@ -46,7 +46,7 @@ fn write_head(ins: &[u8], number: u8, missing: u32) {
 fn write_record(ins: &[u8]) {
     let mut record = [0xFFu8; 24];
     let mut missing = u32::MAX;
-    let number = z80_record(ins, &mut record, &mut missing);
+    let number = z80_record(0, ins, &mut record, &mut missing);
     write_head(ins, number, missing);
     write_bytes(&record, b" ", b"");
 }
@@ -57,7 +57,14 @@ fn write_text(choice: u8, ins: &[u8], buffer: &mut [u8], room: usize)
 {
     let mut count = u32::MAX;
     let mut missing = u32::MAX;
-    let number = z80_text(choice, ins, &mut buffer[0..room], &mut count, &mut missing);
+    let number = z80_text(
+        0,
+        choice,
+        ins,
+        &mut buffer[0..room],
+        &mut count,
+        &mut missing,
+    );
     write_head(ins, number, missing);
     io::write_all(STDOUT_FILENO, b" ");
     io::print_decimal(STDOUT_FILENO, count as u64);

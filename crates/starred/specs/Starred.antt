@@ -1,4 +1,4 @@
--- Document 01's starred rows, and document 02's single rows, a list each. Definitions only.
+-- Document 01's starred rows, document 02's single rows and the chip's own, a list each. Definitions only.
 use Prim.Native.Nat.{ℕ}
 use mathlib.Core.Path.{_≡_}
 use mathlib.Core.List.{List, [], _∷_, _++_}
@@ -13,11 +13,12 @@ use Rattle.opcode.specs.declared.operand.Operand.{Operand}
 use Rattle.opcode.specs.declared.operand.Operand.the-variants.{Imm8, Imm16, RelAddr, RegAddr, RegIOAddr, IgnoreIO}
 use Rattle.opcode.specs.declared.operand.Place.{Place}
 use Rattle.opcode.specs.declared.instruction.Instruction.{Instruction}
-use Rattle.opcode.specs.declared.instruction.Instruction.the-variants.{BIT, CALL, DJNZ, IN, INC, JR, LD, LDIR, NOP, RET, SBC, SET}
+use Rattle.opcode.specs.declared.instruction.Instruction.the-variants.{BIT, CALL, DEC, DJNZ, IN, INC, JR, LD, LDIR, NOP, PUSH, RET, SBC, SET}
 use Rattle.opcode.specs.Record.{emptyOf}
 use Rattle.table.specs.declared.Answer.{Answer}
 use Rattle.table.specs.declared.Answer.the-variants.{Long}
-use Rattle.table.specs.Decode.{decodeOf}
+use Rattle.table.specs.declared.Mode.{Mode}
+use Rattle.table.specs.Chip.{decodeIn}
 use Rattle.marking.specs.declared.Checked.{Checked}
 use Rattle.marking.specs.Rules.{chart}
 use Rattle.marking.specs.Verdict.{numberOf, addressOf, Verdict}
@@ -68,6 +69,29 @@ requested =
     ∷ reads (0xDD ∷ 0x20 ∷ 0x00 ∷ 0x00 ∷ []) 1 NOP (Operand.FlagCondition FlagCondition.NZ ∷ RelAddr (pos 2) ∷ []) (4 ∷ 3 ∷ 5 ∷ []) 12 12
     ∷ []
 
+-- what the chip's own reading says of rows where the Rust's is an odd one, and of some where it is not
+abbrev pub chipRows : List Starred
+chipRows =
+    lacks (0xDD ∷ []) 1
+    ∷ reads (0xDD ∷ 0x00 ∷ []) 1 NOP [] (4 ∷ []) 4 4
+    ∷ reads (0xDD ∷ 0xDD ∷ []) 1 NOP [] (4 ∷ []) 4 4
+    ∷ reads (0xDD ∷ 0xED ∷ 0x62 ∷ []) 1 NOP [] (4 ∷ []) 4 4
+    ∷ reads (0xDD ∷ 0xEB ∷ []) 1 NOP [] (4 ∷ []) 4 4
+    ∷ reads (0xDD ∷ 0x01 ∷ 0x34 ∷ 0x12 ∷ []) 1 NOP [] (4 ∷ []) 4 4
+    ∷ reads (0xED ∷ 0x00 ∷ []) 2 NOP [] (4 ∷ 4 ∷ []) 8 8
+    ∷ reads (0xDD ∷ 0x23 ∷ []) 2 INC (Operand.Reg16 Reg16.IX ∷ []) (4 ∷ 6 ∷ []) 10 10
+    ∷ reads (0xFD ∷ 0x2B ∷ []) 2 DEC (Operand.Reg16 Reg16.IY ∷ []) (4 ∷ 6 ∷ []) 10 10
+    ∷ reads (0xDD ∷ 0xE5 ∷ []) 2 PUSH (Operand.Reg16 Reg16.IX ∷ []) (4 ∷ 5 ∷ 3 ∷ 3 ∷ []) 15 15
+    ∷ reads (0xDD ∷ 0xF9 ∷ []) 2 LD (Operand.Reg16 Reg16.SP ∷ Operand.Reg16 Reg16.IX ∷ []) (4 ∷ 6 ∷ []) 10 10
+    ∷ lacks (0xDD ∷ 0x66 ∷ []) 1
+    ∷ reads (0xDD ∷ 0x66 ∷ 0x05 ∷ []) 3 LD (Operand.Reg8 Reg8.H ∷ Operand.RegI (RegI.IX (pos 5)) ∷ []) (4 ∷ 4 ∷ 3 ∷ 5 ∷ 3 ∷ []) 19 19
+    ∷ reads (0xDD ∷ 0x36 ∷ 0x80 ∷ 0x07 ∷ []) 4 LD (Operand.RegI (RegI.IX (negsuc 127)) ∷ Imm8 0x07 ∷ []) (4 ∷ 4 ∷ 3 ∷ 5 ∷ 3 ∷ []) 19 19
+    ∷ reads (0xFD ∷ 0xCB ∷ 0x7F ∷ 0xC6 ∷ []) 4 SET (Imm8 0x00 ∷ Operand.RegI (RegI.IY (pos 127)) ∷ []) (4 ∷ 4 ∷ 3 ∷ 5 ∷ 4 ∷ 3 ∷ []) 23 23
+    ∷ reads (0xDD ∷ 0x76 ∷ []) 1 NOP [] (4 ∷ []) 4 4
+    ∷ reads (0x00 ∷ []) 1 NOP [] (4 ∷ []) 4 4
+    ∷ checks (0xDD ∷ 0x23 ∷ 0xC9 ∷ []) (1 ∷ 2 ∷ 1 ∷ []) (0 ∷ 0 ∷ []) Checked.Done
+    ∷ []
+
 -- the operand places, those behind the last operand being empty
 abbrev pub placeOf : List Operand → Place
 placeOf [] = Place.Empty
@@ -84,10 +108,10 @@ asStates (t ∷ ts) = record { 0 = t } ∷ asStates ts
 abbrev pub zeros : List ℕ
 zeros = 0 ∷ 0 ∷ 0 ∷ 0 ∷ 0 ∷ 0 ∷ []
 
--- what a claim says: answer and every field of the record, data and T-states padded with zeros; of a map, that the marking rules name this answer
-abbrev pub Holds : Starred → Type 0
-Holds (reads s n i os ts low high) =
-    decodeOf s
+-- what a claim says in a mode: answer and every field of the record, data and T-states padded with zeros; of a map, that the marking rules name this answer
+abbrev pub Holds : Mode → Starred → Type 0
+Holds m (reads s n i os ts low high) =
+    decodeIn m s
     ≡ record {
       answer = Answer.Done;
       rec =
@@ -104,10 +128,10 @@ Holds (reads s n i os ts low high) =
             most = record { 0 = high };
           };
     }
-Holds (lacks s k) = decodeOf s ≡ record { answer = Answer.Short (record { 0 = k }); rec = emptyOf }
-Holds (five a) = (b0 b1 b2 b3 b4 : ℕ) → decodeOf (b0 ∷ b1 ∷ b2 ∷ b3 ∷ b4 ∷ []) ≡ record { answer = a; rec = emptyOf }
-Holds (checks s ms es x) = Verdict lookOf (chart s 0 ms) es (numberOf x) (addressOf x)
+Holds m (lacks s k) = decodeIn m s ≡ record { answer = Answer.Short (record { 0 = k }); rec = emptyOf }
+Holds m (five a) = (b0 b1 b2 b3 b4 : ℕ) → decodeIn m (b0 ∷ b1 ∷ b2 ∷ b3 ∷ b4 ∷ []) ≡ record { answer = a; rec = emptyOf }
+Holds m (checks s ms es x) = Verdict (lookOf m) (chart s 0 ms) es (numberOf x) (addressOf x)
 
-abbrev pub All : List Starred → Type 0
-All [] = Unit {0}
-All (x ∷ xs) = Holds x × All xs
+abbrev pub All : Mode → List Starred → Type 0
+All m [] = Unit {0}
+All m (x ∷ xs) = Holds m x × All m xs

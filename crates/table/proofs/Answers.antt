@@ -1,4 +1,4 @@
--- The answer is Nothing, Short, Long or Done exactly when document 01's table of numbers says so.
+-- The answer is Nothing or Long exactly when document 01's table of numbers says so, in either mode, and Short where fewer bytes are there than are needed; in the Rust's mode these are the bytes that decide no row.
 -- Assumes nothing.
 use mathlib.Core.Path.{_≡_, refl, sym, ap, subst, _∙_}
 use mathlib.Core.Logic.{_⊎_, inl, inr, ⊎-elim, _↔_}
@@ -12,13 +12,16 @@ use borrow.Author.Tests.{eqb-true, eqb-false, ltb-true, ltb-false, eq-eqb, ne-eq
 use Rattle.opcode.specs.declared.record.OpCode.{OpCode}
 use Rattle.opcode.specs.Record.{emptyOf}
 use Rattle.table.specs.declared.Answer.{Answer}
+use Rattle.table.specs.declared.Mode.{Mode}
 use Rattle.table.specs.Row.{Row, row, gap}
 use Rattle.table.specs.Departures.{needed, neededBehind}
 use Rattle.table.specs.Plain.{plain}
 use Rattle.table.specs.Cb.{cb}
 use Rattle.table.specs.Ed.{ed}
-use Rattle.table.specs.Decode.{numberOf, isPrefix, pageRow, rowOf, operandBytes, recordOf, four, edAlone, neededOf, rust, decodeOf}
-use Rattle.table.specs.Consequences.{values, AllBytes, first, second, Undefined, Alone, lengthOf, Cut, TooFew, NothingWhen, ShortWhen, LongWhen, DoneWhen, Below}
+use Rattle.table.specs.Decode.{numberOf, outcome, toldBy, isPrefix, pageRow, rowOf, operandBytes, recordOf, four, edAlone, neededOf, decodeOf}
+use Rattle.table.specs.Chip.{defined, chipRowOf, readingOf, decodeIn, outcomeIn}
+use Rattle.table.specs.Modes.{isGap}
+use Rattle.table.specs.Consequences.{values, AllBytes, first, second, Undefined, Alone, lengthOf, Cut, TooFew, NothingWhen, LongWhen, Below}
 use Rattle.table.proofs.Upto.{agree}
 use Rattle.table.proofs.Pages.{every, at-code}
 use Rattle.table.proofs.Done.{verdict, tells-nothing, tells-long, tells-short, tells-refused}
@@ -35,7 +38,7 @@ neither false b e = (refl, e)
 pub prefixed : (b : ℕ) → isPrefix b ≡ true → (b ≡ 0xDD) ⊎ (b ≡ 0xFD)
 prefixed b e = ⊎-elim (λ t. inl (eqb-true b 0xDD t)) (λ t. inr (eqb-true b 0xFD t)) (either (eqb b 0xDD) (eqb b 0xFD) e)
 
-is-prefixed : (b : ℕ) → (b ≡ 0xDD) ⊎ (b ≡ 0xFD) → isPrefix b ≡ true
+pub is-prefixed : (b : ℕ) → (b ≡ 0xDD) ⊎ (b ≡ 0xFD) → isPrefix b ≡ true
 is-prefixed b (inl e) = rw e
 is-prefixed b (inr e) = rw e
 
@@ -44,16 +47,36 @@ pub page-row : (s : List ℕ) → isPrefix (first s) ≡ false → rowOf s ≡ p
 unfolding rowOf
 page-row s e = let n = neither (eqb (first s) 0xDD) (eqb (first s) 0xFD) e in rw (n .0, n .1)
 
--- the plain page has a row at every byte but CB, ED, DD and FD, and the CB page at every byte
-abbrev isGap : Row → Bool
-isGap gap = true
-isGap (row i x y z n t) = false
+-- a row of the ED page in a mode
+abbrev pub edRow : Mode → Row → Row
+edRow Mode.Rust x = x
+edRow Mode.Chip x = defined x
 
-plain-gaps : values (λ (b : ℕ). isGap (getD plain b gap)) 0 256 ≡ values (λ (b : ℕ). eqb b 0xCB || (eqb b 0xED || isPrefix b)) 0 256
+-- with no prefix in front a row is the page's, in either mode
+pub unprefixed :
+    (m : Mode) (s : List ℕ) → isPrefix (first s) ≡ false
+    → readingOf m .row s ≡ cond (eqb (first s) 0xCB) (getD cb (second s) gap) (cond (eqb (first s) 0xED) (edRow m (getD ed (second s) gap)) (getD plain (first s) gap))
+unfolding pageRow chipRowOf
+unprefixed Mode.Rust s e = page-row s e
+unprefixed Mode.Chip s e = by-ed (eqb (first s) 0xED) refl
+  where
+    n : (eqb (first s) 0xDD ≡ false) × (eqb (first s) 0xFD ≡ false)
+    n = neither (eqb (first s) 0xDD) (eqb (first s) 0xFD) e
+
+    by-ed :
+        (b : Bool) → eqb (first s) 0xED ≡ b
+        → chipRowOf s ≡ cond (eqb (first s) 0xCB) (getD cb (second s) gap) (cond (eqb (first s) 0xED) (defined (getD ed (second s) gap)) (getD plain (first s) gap))
+    by-ed true q =
+        let no : eqb (first s) 0xCB ≡ false = ap (λ (b : ℕ). eqb b 0xCB) (eqb-true (first s) 0xED q) in
+        rw (n .0, n .1, q, no)
+    by-ed false q = rw (n .0, n .1, q)
+
+-- the plain page has a row at every byte but CB, ED, DD and FD, and the CB page at every byte
+pub plain-gaps : values (λ (b : ℕ). isGap (getD plain b gap)) 0 256 ≡ values (λ (b : ℕ). eqb b 0xCB || (eqb b 0xED || isPrefix b)) 0 256
 unfolding plain
 plain-gaps = refl
 
-cb-full : values (λ (b : ℕ). isGap (getD cb b gap)) 0 256 ≡ values (λ (b : ℕ). false) 0 256
+pub cb-full : values (λ (b : ℕ). isGap (getD cb b gap)) 0 256 ≡ values (λ (b : ℕ). false) 0 256
 unfolding cb
 cb-full = refl
 
@@ -97,7 +120,7 @@ cut-needed gap n h = absurd (omega arith)
 cut-needed (row i x y z m t) n h = h
 
 module _ (s : List ℕ) (bytes : AllBytes s) (some : 1 ≤ length s) (few : length s ≤ 3) where
-  too-few : length s < neededOf s → TooFew s
+  too-few : length s < neededOf s → TooFew Mode.Rust s
   too-few = by-prefix (isPrefix (first s)) refl
     where
       undefined-or-alone : (first s ≡ 0xED) × (getD ed (second s) gap ≡ gap) → Undefined s ⊎ (Alone s ⊎ Cut s)
@@ -107,11 +130,11 @@ module _ (s : List ℕ) (bytes : AllBytes s) (some : 1 ≤ length s) (few : leng
           by-count true q = inl (ltb-true 1 (length s) q, g .0, g .1)
           by-count false q = inr (inl (omega (arith, ltb-false 1 (length s) q), inr (g .0)))
 
-      by-prefix : (b : Bool) → isPrefix (first s) ≡ b → length s < neededBehind b (cond (edAlone s) 2 (needed (rowOf s))) → TooFew s
+      by-prefix : (b : Bool) → isPrefix (first s) ≡ b → length s < neededBehind b (cond (edAlone s) 2 (needed (rowOf s))) → TooFew Mode.Rust s
       by-prefix true q h = inl (prefixed (first s) q)
       by-prefix false q h = by-alone (edAlone s) refl h
         where
-          by-alone : (c : Bool) → edAlone s ≡ c → length s < cond c 2 (needed (rowOf s)) → TooFew s
+          by-alone : (c : Bool) → edAlone s ≡ c → length s < cond c 2 (needed (rowOf s)) → TooFew Mode.Rust s
           by-alone true a h = let t = ed-alone s a in inr (inr (inl (t .0, inr (t .1))))
           by-alone false a h =
               ⊎-elim
@@ -134,20 +157,30 @@ module _ (s : List ℕ) (bytes : AllBytes s) (some : 1 ≤ length s) (few : leng
   by-page (inr (inl (one, inr e))) = rw (e, one) (ltb→lt 1 (needed (getD ed (second s) gap)) (at-code two ed ed-two tt (second s)))
   by-page (inr (inr cut)) = cut-needed (pageRow (first s) (second s)) (length s) cut
 
-  is-few : TooFew s → length s < neededOf s
+  is-few : TooFew Mode.Rust s → length s < neededOf s
   is-few = by-prefix (isPrefix (first s)) refl
     where
-      by-prefix : (b : Bool) → isPrefix (first s) ≡ b → TooFew s → length s < neededOf s
+      by-prefix : (b : Bool) → isPrefix (first s) ≡ b → TooFew Mode.Rust s → length s < neededOf s
       by-prefix true q w = rw q (omega arith)
       by-prefix false q (inl p) = absurd (true≢false (sym (is-prefixed (first s) p) ∙ q))
       by-prefix false q (inr w) = page-needed q (by-page w)
 
-module _ (s : List ℕ) where
+  pub rust-few : (length s < neededOf s) ↔ TooFew Mode.Rust s
+  rust-few = (too-few, is-few)
+
+tells-numbers : (k : ℕ) (r : OpCode) (none over under : Bool) → toldBy (verdict none over under k r) ≡ cond none (outcome 1 0 emptyOf) (cond over (outcome 3 0 emptyOf) (cond under (outcome 2 k emptyOf) (outcome 0 0 r)))
+tells-numbers k r true over under = refl
+tells-numbers k r false true under = refl
+tells-numbers k r false false true = refl
+tells-numbers k r false false false = refl
+
+-- the answers of either mode
+module _ (m : Mode) (s : List ℕ) where
   abbrev found : OpCode
-  found = recordOf (rowOf s) (operandBytes s) (four s)
+  found = recordOf (readingOf m .row s) (operandBytes s) (four s)
 
   abbrev lacks : ℕ
-  lacks = neededOf s - length s
+  lacks = readingOf m .needed s - length s
 
   abbrev none : Bool
   none = eqb (length s) 0
@@ -156,70 +189,53 @@ module _ (s : List ℕ) where
   over = ltb 4 (length s)
 
   abbrev under : Bool
-  under = ltb (length s) (neededOf s)
+  under = ltb (length s) (readingOf m .needed s)
 
-  by-tests : decodeOf s .answer ≡ verdict none over under lacks found .answer
-  unfolding decodeOf
+  by-tests : decodeIn m s .answer ≡ verdict none over under lacks found .answer
+  unfolding decodeIn
   by-tests = refl
 
+  -- in document 01's numbers
+  pub told-in : toldBy (decodeIn m s) ≡ outcomeIn m s
+  unfolding decodeIn
+  told-in = tells-numbers lacks found none over under
+
   -- a refused decode returns the empty record
-  pub refused-empty : (decodeOf s .answer ≡ Answer.Done → ⊥) → decodeOf s .rec ≡ emptyOf
-  unfolding decodeOf
+  pub refused-empty : (decodeIn m s .answer ≡ Answer.Done → ⊥) → decodeIn m s .rec ≡ emptyOf
+  unfolding decodeIn
   refused-empty n = tells-refused lacks found none over under n
 
   -- 1, Nothing: no bytes
-  pub nothing-exactly : (decodeOf s .answer ≡ Answer.Nothing) ↔ NothingWhen s
+  pub nothing-exactly : (decodeIn m s .answer ≡ Answer.Nothing) ↔ NothingWhen s
   nothing-exactly = (
     λ e. eqb-true (length s) 0 (tells-nothing lacks found none over under (sym by-tests ∙ e)),
     λ h. by-tests ∙ rw (eq-eqb (length s) 0 h),
   )
 
   -- 3, Long: over four bytes
-  pub long-exactly : (decodeOf s .answer ≡ Answer.Long) ↔ LongWhen s
+  pub long-exactly : (decodeIn m s .answer ≡ Answer.Long) ↔ LongWhen s
   long-exactly = (
     λ e. ltb-true 4 (length s) (tells-long lacks found none over under (sym by-tests ∙ e)),
     λ h. by-tests ∙ rw (ne-eqb (length s) 0 (λ e. omega arith), lt-ltb 4 (length s) h),
   )
 
   -- 2, Short: one to three bytes, fewer than are needed
-  pub short-below : (numberOf (decodeOf s .answer) ≡ 2) ↔ Below rust s
+  pub short-below : (numberOf (decodeIn m s .answer) ≡ 2) ↔ Below (readingOf m) s
   short-below = (to, from)
     where
-      to : numberOf (decodeOf s .answer) ≡ 2 → Below rust s
+      to : numberOf (decodeIn m s .answer) ≡ 2 → Below (readingOf m) s
       to e =
           let f = tells-short lacks found none over under (ap numberOf (sym by-tests) ∙ e) in
           let n = eqb-false (length s) 0 (f .0) in
-          let less = ltb-true (length s) (neededOf s) (f .2) in
-          (omega arith, omega (arith, needed-at-most s), less)
+          let less = ltb-true (length s) (readingOf m .needed s) (f .2) in
+          (omega arith, omega (arith, needed-at-most m s), less)
 
-      from : Below rust s → numberOf (decodeOf s .answer) ≡ 2
+      from : Below (readingOf m) s → numberOf (decodeIn m s .answer) ≡ 2
       from (some, few, less) =
           ap numberOf by-tests
-          ∙ rw (ne-eqb (length s) 0 (λ e. omega arith), le-ltb 4 (length s) (omega arith), lt-ltb (length s) (neededOf s) less)
+          ∙ rw (ne-eqb (length s) 0 (λ e. omega arith), le-ltb 4 (length s) (omega arith), lt-ltb (length s) (readingOf m .needed s) less)
 
-  -- which are those that decide no row
-  pub short-exactly : AllBytes s → (numberOf (decodeOf s .answer) ≡ 2) ↔ ShortWhen s
-  short-exactly bytes = (
-    λ e. let (some, few, less) = short-below .0 e in (some, few, too-few s bytes some few less),
-    λ (some, few, why). short-below .1 (some, few, is-few s bytes some few why),
-  )
-
-  -- 0, Done: otherwise
-  pub done-exactly : AllBytes s → (decodeOf s .answer ≡ Answer.Done) ↔ DoneWhen s
-  done-exactly bytes = (to, from)
-    where
-      to : decodeOf s .answer ≡ Answer.Done → DoneWhen s
-      to e = (
-        λ w. omega (arith, ap numberOf (sym (nothing-exactly .1 w) ∙ e)),
-        λ w. omega (arith, short-exactly bytes .1 w, ap numberOf e),
-        λ w. omega (arith, ap numberOf (sym (long-exactly .1 w) ∙ e)),
-      )
-
-      by-answer : (a : Answer) → decodeOf s .answer ≡ a → DoneWhen s → decodeOf s .answer ≡ Answer.Done
-      by-answer Answer.Done e w = e
-      by-answer Answer.Nothing e w = absurd (w .0 (nothing-exactly .0 e))
-      by-answer (Answer.Short k) e w = absurd (w .1 (short-exactly bytes .0 (ap numberOf e)))
-      by-answer Answer.Long e w = absurd (w .2 (long-exactly .0 e))
-
-      from : DoneWhen s → decodeOf s .answer ≡ Answer.Done
-      from = by-answer (decodeOf s .answer) refl
+-- the Rust's mode is the table of demand 2
+pub rust-mode : (s : List ℕ) → decodeIn Mode.Rust s ≡ decodeOf s
+unfolding decodeIn decodeOf
+rust-mode s = refl

@@ -8,7 +8,12 @@ pub mod Figures
 pub mod Done
 pub mod Sizes
 pub mod Answers
-pub mod Recursive
 pub mod Decided
+pub mod ChipShort
+pub mod Exactly
+pub mod Recursive
+pub mod Foretells
 pub mod Missing
 pub mod Manual
+pub mod Modes
+pub mod Compared

@@ -1,4 +1,4 @@
--- UM0080's rows behind DD and FD are the original's, but for the order of the cycles at four codes; and which codes they are.
+-- UM0080's rows behind DD and FD are the chip's, and the original's but for the order of the cycles at four codes; and which codes they are.
 -- Assumes nothing.
 use mathlib.Core.Path.{_≡_, refl}
 use mathlib.Core.Bool.{false, not, _&&_, _||_}
@@ -11,10 +11,21 @@ use Rattle.table.specs.Departures.{late}
 use Rattle.table.specs.Plain.{plain}
 use Rattle.table.specs.Cb.{cb}
 use Rattle.table.specs.Prefix.{behindRow}
+use Rattle.table.specs.Chip.{chipBehind}
 use Rattle.table.specs.Consequences.{values, listed, names-pair, moved}
 use Rattle.table.specs.IndexPage.{indexPage, indexBits}
 
--- each line of the manual's is the original's row, its first two cycles having changed places
+-- each line of the manual's is the chip's row, the order of its cycles included
+module _ (i : Index) (b3 : ℕ) where
+  pub chip-rows : map (λ (p : ℕ × Row). chipBehind i (p .0) b3) (indexPage i) ≡ map (λ (p : ℕ × Row). p .1) (indexPage i)
+  unfolding plain chipBehind
+  chip-rows = refl
+
+pub chip-bits : (i : Index) → map (λ (p : ℕ × Row). chipBehind i 0xCB (p .0)) (indexBits i) ≡ map (λ (p : ℕ × Row). p .1) (indexBits i)
+unfolding cb chipBehind
+chip-bits i = refl
+
+-- and the original's row, its first two cycles having changed places
 module _ (i : Index) (b2 b3 : ℕ) where
   pub index-rows : map (λ (p : ℕ × Row). behindRow i (p .0) b2 b3) (indexPage i) ≡ map (λ (p : ℕ × Row). late (p .1)) (indexPage i)
   unfolding plain behindRow

@@ -1,4 +1,4 @@
--- The sizes of a decoded record: its length, its machine cycles, its T-state places and its row times.
+-- The sizes of a decoded record: its length, its machine cycles, its T-state places and its row times, in either mode.
 -- Assumes nothing.
 use mathlib.Core.Path.{_≡_, refl, sym, ap, subst, _∙_}
 use mathlib.Core.Bool.{Bool, true, false, cond, _&&_, true≢false}
@@ -6,7 +6,7 @@ use mathlib.Core.List.{List, [], _∷_}
 use Prim.Native.Nat.{ℕ, zero, suc, _<_, _≤_}
 use native.Mathlib.Omega.{arith}
 use lib.Dec.{T, eqb, ltb, leb, leb→le, ltb→lt}
-use borrow.Author.Tests.{eqb-true}
+use borrow.Author.Tests.{eqb-true, ltb-false}
 use native.Mathlib.Nat.{le-of-suc-le-suc, le-trans}
 use lib.ListN.{length, getD, List·getD-eq-default}
 use Rattle.opcode.specs.declared.counts.TStates.{TStates}
@@ -15,16 +15,18 @@ use Rattle.opcode.specs.declared.record.OpCode.{OpCode}
 use Rattle.opcode.specs.Record.{unfilled, six, sum}
 use Rattle.opcode.specs.Times.{leastOf, mostOf}
 use Rattle.table.specs.declared.Answer.{Answer}
+use Rattle.table.specs.declared.Mode.{Mode}
 use Rattle.table.specs.declared.Decoded.{Decoded}
 use Rattle.table.specs.Row.{Kind, none, Cycles, Row, row, gap, t1, read, states}
 use Rattle.table.specs.Departures.{oneFigure, needed, neededBehind}
 use Rattle.table.specs.Plain.{plain}
 use Rattle.table.specs.Cb.{cb}
 use Rattle.table.specs.Ed.{ed}
-use Rattle.table.specs.Decode.{isPrefix, rowOf, operandBytes, made, recordOf, four, edAlone, neededOf, rust, decodeOf}
+use Rattle.table.specs.Decode.{isPrefix, rowOf, operandBytes, made, recordOf, four, edAlone}
+use Rattle.table.specs.Chip.{chipRowOf, readingOf, decodeIn}
 use Rattle.table.specs.Consequences.{Keeps}
 use Rattle.table.proofs.Pages.{both-left, both-right}
-use Rattle.table.proofs.Rows.{Everywhere, row-holds}
+use Rattle.table.proofs.Rows.{Everywhere, mode-row-holds}
 use Rattle.table.proofs.Done.{decides, decided}
 
 -- each machine cycle has T-states
@@ -61,10 +63,13 @@ all-sized s =
       load = λ i. tt;
       no-bit = λ i. tt;
       on-bit = λ i. tt;
+      chip-none = (tt, tt);
+      chip-plain = λ i. tt;
+      chip-ed = tt;
     }
 
-row-sized : (s : List ℕ) → Sized (rowOf s)
-row-sized s bytes = row-holds (sized bytes) (all-sized bytes) s
+row-sized : (m : Mode) (s : List ℕ) → Sized (readingOf m .row s)
+row-sized m s bytes = mode-row-holds (sized bytes) (all-sized bytes) m s
 
 length-states : (ts : List ℕ) → length (states ts) ≡ length ts
 length-states [] = refl
@@ -137,14 +142,25 @@ rust-most true c n h = omega arith
 rust-most false true n h = omega arith
 rust-most false false n h = h
 
-pub needed-at-most : (s : List ℕ) → neededOf s ≤ 4
-needed-at-most s = rust-most (isPrefix (getD s 0 0)) (edAlone s) (needed (rowOf s)) (row-needs (rowOf s) (row-sized s))
+chip-most : (b c : Bool) (n : ℕ) → n ≤ 4 → cond b (cond c n 2) n ≤ 4
+chip-most true true n h = h
+chip-most true false n h = omega arith
+chip-most false c n h = h
+
+pub needed-at-most : (m : Mode) (s : List ℕ) → readingOf m .needed s ≤ 4
+needed-at-most Mode.Rust s = rust-most (isPrefix (getD s 0 0)) (edAlone s) (needed (rowOf s)) (row-needs (rowOf s) (row-sized Mode.Rust s))
+needed-at-most Mode.Chip s = let x = chipRowOf s in chip-most (isPrefix (getD s 0 0)) (ltb 2 (needed x)) (needed x) (row-needs x (row-sized Mode.Chip s))
 
 -- the bytes that decide a row hold it whole; ED alone decides none
 rust-whole : (b c : Bool) (l n : ℕ) → n ≤ 4 → (c ≡ true → l ≡ 1) → neededBehind b (cond c 2 n) ≤ l → n ≤ l
 rust-whole true c l n h one fits = omega arith
 rust-whole false true l n h one fits = absurd (omega (arith, one refl))
 rust-whole false false l n h one fits = fits
+
+chip-whole : (b c : Bool) (l n : ℕ) → ltb 2 n ≡ c → cond b (cond c n 2) n ≤ l → n ≤ l
+chip-whole true true l n q fits = fits
+chip-whole true false l n q fits = omega (arith, ltb-false 2 n q)
+chip-whole false c l n q fits = fits
 
 ed-one : (s : List ℕ) → edAlone s ≡ true → length s ≡ 1
 ed-one s = by-test (eqb (length s) 1) refl
@@ -153,18 +169,19 @@ ed-one s = by-test (eqb (length s) 1) refl
     by-test true q e = eqb-true (length s) 1 q
     by-test false q e = absurd (true≢false (sym e))
 
-pub whole : (s : List ℕ) → neededOf s ≤ length s → needed (rowOf s) ≤ length s
-whole s fits = rust-whole (isPrefix (getD s 0 0)) (edAlone s) (length s) (needed (rowOf s)) (row-needs (rowOf s) (row-sized s)) (ed-one s) fits
+pub whole : (m : Mode) (s : List ℕ) → readingOf m .needed s ≤ length s → needed (readingOf m .row s) ≤ length s
+whole Mode.Rust s fits = rust-whole (isPrefix (getD s 0 0)) (edAlone s) (length s) (needed (rowOf s)) (row-needs (rowOf s) (row-sized Mode.Rust s)) (ed-one s) fits
+whole Mode.Chip s fits = chip-whole (isPrefix (getD s 0 0)) (ltb 2 (needed (chipRowOf s))) (length s) (needed (chipRowOf s)) refl fits
 
-pub sizes : (s : List ℕ) → decodeOf s .answer ≡ Answer.Done → Keeps (length s) (decodeOf s .rec)
-unfolding decodeOf
-sizes s e =
-    let w = decides rust s e in
-    let x = rowOf s in
+pub sizes : (m : Mode) (s : List ℕ) → decodeIn m s .answer ≡ Answer.Done → Keeps (length s) (decodeIn m s .rec)
+unfolding decodeIn
+sizes m s e =
+    let w = decides (readingOf m) s e in
+    let x = readingOf m .row s in
     subst (λ (o : OpCode). Keeps (length s) o) (sym (ap (λ (u : Decoded). u .rec) (w .made)))
-    (record-keeps x (row-sized s) (operandBytes s) (four s) (length s) (le-trans (row-length x (operandBytes s) (four s)) (whole s (w .enough))))
+    (record-keeps x (row-sized m s) (operandBytes s) (four s) (length s) (le-trans (row-length x (operandBytes s) (four s)) (whole m s (w .enough))))
 
 -- four bytes are never refused
-pub four-decide : (s : List ℕ) → length s ≡ 4 → decodeOf s .answer ≡ Answer.Done
-unfolding decodeOf
-four-decide s e = ap (λ (u : Decoded). u .answer) (decided rust s (omega arith) (omega arith) (le-trans (needed-at-most s) (omega arith)))
+pub four-decide : (m : Mode) (s : List ℕ) → length s ≡ 4 → decodeIn m s .answer ≡ Answer.Done
+unfolding decodeIn
+four-decide m s e = ap (λ (u : Decoded). u .answer) (decided (readingOf m) s (omega arith) (omega arith) (le-trans (needed-at-most m s) (omega arith)))

@@ -11,11 +11,13 @@ use Rattle.opcode.specs.declared.record.OpCode.{OpCode}
 use Rattle.opcode.specs.Record.{unfilled}
 use Rattle.opcode.specs.Times.{timeOf}
 use Rattle.table.specs.declared.Answer.{Answer}
+use Rattle.table.specs.declared.Mode.{Mode}
 use Rattle.table.specs.Row.{Kind, none, is, hl, h, l, at-hl, byte, word, at-word, at-port, rel, at-index, byte-behind, Cycles, always, conditional, repeating, Row, row, gap, is-at-hl}
 use Rattle.table.specs.Departures.{oneFigure, afterFirst, swapped}
 use Rattle.table.specs.Ed.{ed}
 use Rattle.table.specs.Prefix.{is-hl}
-use Rattle.table.specs.Decode.{pageRow, made, four, done, Reading, decodeBy, decodeOf}
+use Rattle.table.specs.Decode.{pageRow, made, four, done, Reading, decodeBy}
+use Rattle.table.specs.Chip.{chipRowOf, decodeIn}
 
 -- f's values at the n numbers from i
 abbrev pub values : {A : Type 0} → (ℕ → A) → ℕ → ℕ → List A
@@ -52,17 +54,18 @@ lengthOf (row i x y z n t) = n
 abbrev pub Cut : List ℕ → Type 0
 Cut s = length s < lengthOf (pageRow (first s) (second s))
 
--- too few to decide the row
-abbrev pub TooFew : List ℕ → Type 0
-TooFew s = Prefixed s ⊎ (Undefined s ⊎ (Alone s ⊎ Cut s))
+-- too few to decide the row: fewer than its length, and in the Rust's mode all of up to three where the first is DD or FD or the code is an undefined ED one; in the chip's, DD or FD alone
+abbrev pub TooFew : Mode → List ℕ → Type 0
+TooFew Mode.Rust s = Prefixed s ⊎ (Undefined s ⊎ (Alone s ⊎ Cut s))
+TooFew Mode.Chip s = ((length s ≡ 1) × Prefixed s) ⊎ (length s < lengthOf (chipRowOf s))
 
 -- 1, Nothing: no bytes
 abbrev pub NothingWhen : List ℕ → Type 0
 NothingWhen s = length s ≡ 0
 
--- 2, Short: one to three bytes, fewer than the row's length, or fewer than four where the first is DD or FD or the code is an undefined ED one
-abbrev pub ShortWhen : List ℕ → Type 0
-ShortWhen s = (1 ≤ length s) × (length s ≤ 3) × TooFew s
+-- 2, Short: one to three bytes, too few to decide the row
+abbrev pub ShortWhen : Mode → List ℕ → Type 0
+ShortWhen m s = (1 ≤ length s) × (length s ≤ 3) × TooFew m s
 
 -- the same of any reading: one to three bytes, fewer than are needed
 abbrev pub Below : Reading → List ℕ → Type 0
@@ -73,8 +76,8 @@ abbrev pub LongWhen : List ℕ → Type 0
 LongWhen s = 4 < length s
 
 -- 0, Done: otherwise
-abbrev pub DoneWhen : List ℕ → Type 0
-DoneWhen s = (NothingWhen s → ⊥) × (ShortWhen s → ⊥) × (LongWhen s → ⊥)
+abbrev pub DoneWhen : Mode → List ℕ → Type 0
+DoneWhen m s = (NothingWhen s → ⊥) × (ShortWhen m s → ⊥) × (LongWhen s → ⊥)
 
 -- what a decoded record of n given bytes keeps to: its length, its machine cycles m, the first m of six T-state places filled and the rest zero, its row times
 pub record Keeps (n : ℕ) (o : OpCode) : Type 0 where
@@ -108,8 +111,8 @@ withData o d =
     }
 
 -- bytes t added to s change nothing of what s decodes to but the data
-abbrev pub Stays : List ℕ → List ℕ → Type 0
-Stays s t = decodeOf (s ++ t) ≡ done (withData (decodeOf s .rec) (four (s ++ t)))
+abbrev pub Stays : Mode → List ℕ → List ℕ → Type 0
+Stays m s t = decodeIn m (s ++ t) ≡ done (withData (decodeIn m s .rec) (four (s ++ t)))
 
 -- k bytes behind s for which the decode succeeds
 pub record Completion (r : Reading) (s : List ℕ) (k : ℕ) : Type 0 where

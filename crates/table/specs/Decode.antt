@@ -109,6 +109,27 @@ decodeBy r s =
     (cond (ltb (length s) (r .needed s)) (short (r .needed s - length s))
     (done (recordOf (r .row s) (operandBytes s) (four s)))))
 
+-- what a host is told of some bytes, in document 01's numbers, and the record
+pub record Outcome : Type 0 where
+  pub number : ℕ
+  pub missing : ℕ
+  pub rec : OpCode
+
+abbrev pub outcome : ℕ → ℕ → OpCode → Outcome
+outcome n k r = record { number = n; missing = k; rec = r }
+
+-- by what decoding gives
+abbrev pub toldBy : Decoded → Outcome
+toldBy d = outcome (numberOf (d .answer)) (missingOf (d .answer)) (d .rec)
+
+-- 1, 3 and 2 in this order, with the empty record; else 0
+abbrev pub outcomeBy : Reading → List ℕ → Outcome
+outcomeBy r s =
+    cond (eqb (length s) 0) (outcome 1 0 emptyOf)
+    (cond (ltb 4 (length s)) (outcome 3 0 emptyOf)
+    (cond (ltb (length s) (r .needed s)) (outcome 2 (r .needed s - length s) emptyOf)
+    (outcome 0 0 (recordOf (r .row s) (operandBytes s) (four s)))))
+
 -- as the Rust reads them
 abbrev pub rust : Reading
 rust = record { row = rowOf; needed = neededOf }

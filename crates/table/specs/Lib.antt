@@ -7,7 +7,9 @@ pub mod Cb
 pub mod Ed
 pub mod Prefix
 pub mod Decode
+pub mod Chip
 pub mod Consequences
 pub mod IndexPage
 pub mod Steps
+pub mod Modes
 pub mod Bits

@@ -6,7 +6,6 @@ use borrow.Author.Tests.{lt-ltb}
 use Rattle.opcode.specs.declared.record.OpCode.{OpCode}
 use Rattle.table.specs.declared.Answer.{Answer}
 use Rattle.table.specs.declared.Decoded.{Decoded}
-use Rattle.table.specs.Decode.{decodeOf}
 use Rattle.wording.specs.Ascii.{ascii}
 use Rattle.wording.specs.Answers.{outcome, textOutcome}
 use Rattle.wording.specs.Text.{timesText, bytesPart, instructionPart, timesPart, plainText, fullText, textOf}
@@ -29,9 +28,9 @@ unfolding textOf
 zero-is-empty r = refl
 
 -- which is Done with count 0, also in a buffer of length 0
-pub empty-fits : (s : List ℕ) → decodeOf s .answer ≡ Answer.Done → textOutcome 0 (decodeOf s) [] ≡ outcome 0 0 0 []
+pub empty-fits : (d : Decoded) → d .answer ≡ Answer.Done → textOutcome 0 d [] ≡ outcome 0 0 0 []
 unfolding textOf
-empty-fits s done = rw done refl
+empty-fits d done = rw done refl
 
 -- 26 comes before all others
 pub bad-choice : (choice : ℕ) → 7 < choice → (d : Decoded) (out : List ℕ) → textOutcome choice d out ≡ outcome 26 0 0 out

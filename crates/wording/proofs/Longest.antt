@@ -1,4 +1,4 @@
--- No text of a decoded record is longer than its choice's largest, 52 bytes for all three parts, and one is as long for each choice. A row's text is longest where each byte behind its code is 80 hex, so one computed test over the rows at these bytes is enough.
+-- In either mode no text of a decoded record is longer than its choice's largest, 52 bytes for all three parts, and one is as long for each choice. A row's text is longest where each byte behind its code is 80 hex, so one computed test over the rows at these bytes is enough.
 -- Assumes nothing.
 use mathlib.Core.Path.{_≡_, refl, ap}
 use mathlib.Core.Bool.{Bool, true, false, cond, _&&_, _||_}
@@ -14,6 +14,7 @@ use Rattle.opcode.specs.declared.instruction.Instruction.{Instruction}
 use Rattle.opcode.specs.declared.record.OpCode.{OpCode}
 use Rattle.table.specs.declared.Answer.{Answer}
 use Rattle.table.specs.declared.Decoded.{Decoded}
+use Rattle.table.specs.declared.Mode.{Mode}
 use Rattle.table.specs.Signed.{signedOf, relativeOf}
 use Rattle.table.specs.Row.{ix, iy, Kind, none, is, hl, h, l, at-hl, byte, word, at-word, at-port, rel, at-index, byte-behind, Cycles, Row, row, gap, t1, read}
 use Rattle.table.specs.Plain.{plain}
@@ -21,11 +22,12 @@ use Rattle.table.specs.Cb.{cb}
 use Rattle.table.specs.Ed.{ed}
 use Rattle.table.specs.Prefix.{behindRow}
 use Rattle.table.specs.Decode as decode
-use Rattle.table.specs.Decode.{isPrefix, rowOf, operandBytes, made, recordOf, four, rust, decodeOf}
+use Rattle.table.specs.Decode.{isPrefix, rowOf, operandBytes, made, recordOf, four, decodeOf}
+use Rattle.table.specs.Chip.{readingOf, decodeIn}
 use Rattle.table.specs.Consequences.{values, AllBytes}
 use Rattle.table.proofs.Upto.{agree}
 use Rattle.table.proofs.Pages.{both-left, both-right, chosen}
-use Rattle.table.proofs.Rows.{Everywhere, row-holds}
+use Rattle.table.proofs.Rows.{Everywhere, mode-row-holds}
 use Rattle.table.proofs.Done.{decides}
 use Rattle.wording.specs.Ascii.{ascii}
 use Rattle.wording.specs.Digits.{hex8, hex16, decimal, digitAt, signed}
@@ -118,6 +120,9 @@ all-fit =
       load = λ i. elim i [ ix ↦ tt | iy ↦ tt ];
       no-bit = λ i. tt;
       on-bit = λ i. elim i [ ix ↦ tt | iy ↦ tt ];
+      chip-none = (tt, tt);
+      chip-plain = λ i. elim i [ ix ↦ tt | iy ↦ tt ];
+      chip-ed = tt;
     }
 
 -- bytes stay bytes behind the first ones
@@ -155,24 +160,24 @@ module _ (choice : ℕ) where
       by-tests false false true = omega arith
       by-tests false false false = omega arith
 
-  module _ (s : List ℕ) (bytes : AllBytes s) (done : decodeOf s .answer ≡ Answer.Done) where
+  module _ (mode : Mode) (s : List ℕ) (bytes : AllBytes s) (done : decodeIn mode s .answer ≡ Answer.Done) where
     -- no text of a decoded record is longer than its choice's largest
-    pub text-most : length (textOf choice (decodeOf s .rec)) ≤ choiceMost choice
-    unfolding decodeOf textOf
+    pub text-most : length (textOf choice (decodeIn mode s .rec)) ≤ choiceMost choice
+    unfolding decodeIn textOf
     text-most =
-        let x = rowOf s in
+        let x = readingOf mode .row s in
         let q = recordOf x lowest zeros in
         let p = row-most x (operandBytes s) (four s) (behind-bytes s bytes) refl in
-        let f = row-holds fits all-fit s in
+        let f = mode-row-holds fits all-fit mode s in
         let g = both-right (leb (length (bytesPart q)) bytesMost) _ f in
         let r = recordOf x (operandBytes s) (four s) in
-        rw (ap (λ (d : Decoded). d .rec) (decides rust s done .made))
+        rw (ap (λ (d : Decoded). d .rec) (decides (readingOf mode) s done .made))
         (adds (hasBytes choice) (hasInstruction choice) (hasTimes choice) (bytesPart r) (instructionPart r) (timesPart r) bytesMost instructionMost timesMost
         (le-trans (p .bytes) (leb→le (length (bytesPart q)) bytesMost (both-left (leb (length (bytesPart q)) bytesMost) _ f)))
         (le-trans (p .instruction) (leb→le (length (instructionPart q)) instructionMost (both-left (leb (length (instructionPart q)) instructionMost) _ g)))
         (le-trans (p .times) (leb→le (length (timesPart q)) timesMost (both-right (leb (length (instructionPart q)) instructionMost) _ g))))
 
-    pub any-most : length (textOf choice (decodeOf s .rec)) ≤ textMost
+    pub any-most : length (textOf choice (decodeIn mode s .rec)) ≤ textMost
     any-most = le-trans text-most choice-most
 
 -- nor is any count
@@ -182,9 +187,9 @@ count-most Answer.Nothing t out most = omega arith
 count-most (Answer.Short k) t out most = omega arith
 count-most Answer.Long t out most = omega arith
 
-pub text-count : (choice : ℕ) (s : List ℕ) → AllBytes s → (out : List ℕ) → textOutcome choice (decodeOf s) out .count ≤ textMost
-text-count choice s bytes out =
-    chosen (λ (o : Outcome). o .count ≤ textMost) (ltb 7 choice) _ _ (omega arith) (count-most (decodeOf s .answer) (textOf choice (decodeOf s .rec)) out (any-most choice s bytes))
+pub text-count : (choice : ℕ) (mode : Mode) (s : List ℕ) → AllBytes s → (out : List ℕ) → textOutcome choice (decodeIn mode s) out .count ≤ textMost
+text-count choice mode s bytes out =
+    chosen (λ (o : Outcome). o .count ≤ textMost) (ltb 7 choice) _ _ (omega arith) (count-most (decodeIn mode s .answer) (textOf choice (decodeIn mode s .rec)) out (any-most choice mode s bytes))
 
 -- DD CB 80 C7 is SET 00, (IX-128), A: each of its texts is the longest of its choice
 abbrev longest : OpCode

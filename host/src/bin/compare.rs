@@ -1,4 +1,4 @@
-//! Holds the exported functions to the original. The words of the command line run the bridge, where there is one.
+//! Holds the exported functions to the original, and in the chip's mode to the plain reading of that. The words of the command line run the bridge, where there is one.
 
 use host::caller::Caller;
 use host::calls::Calls;
@@ -9,13 +9,14 @@ use host::tally::Tally;
 use std::process::ExitCode;
 use std::{env, io};
 
-/// Makes these calls. The original is asked once for all rooms.
+/// Makes these calls. What they should say is asked for once for all rooms.
 fn make(calls: &Calls, caller: &mut Caller, tally: &mut Tally) -> io::Result<()> {
     let mut fills = (0..).map(filled);
     for asked in calls.asked() {
-        let said = said(&asked);
+        let said = said(calls.mode, &asked);
         for (room, before) in calls.rooms.iter().zip(&mut fills) {
             let call = Call {
+                mode: calls.mode,
                 asked: &asked,
                 room: *room as usize,
                 before,
@@ -29,10 +30,10 @@ fn make(calls: &Calls, caller: &mut Caller, tally: &mut Tally) -> io::Result<()>
     Ok(())
 }
 
-/// Makes all calls of one function, and prints what they came to.
-fn compare_group(group: Group, caller: &mut Caller) -> io::Result<Tally> {
-    let (function, mut tally) = (group.function, Tally::default());
-    for (name, run) in group.runs {
+/// Makes all calls of one function in a mode, and prints what they came to.
+fn compare_group(group: &mut Group, caller: &mut Caller) -> io::Result<Tally> {
+    let (function, mut tally) = (&group.function, Tally::default());
+    for (name, run) in &mut group.runs {
         let earlier = tally.calls;
         for calls in run {
             make(&calls, caller, &mut tally)?;
@@ -49,12 +50,12 @@ fn compare_group(group: Group, caller: &mut Caller) -> io::Result<Tally> {
 fn compare(words: &[String]) -> io::Result<bool> {
     let mut caller = Caller::start(words, all_calls)?;
     let (mut calls, mut differing, mut complete) = (0, 0, true);
-    for group in groups() {
-        let (function, to_meet, at_least) = (group.function, group.to_meet, group.at_least);
-        let tally = compare_group(group, &mut caller)?;
+    for mut group in groups() {
+        let tally = compare_group(&mut group, &mut caller)?;
         calls += tally.calls;
         differing += tally.differing;
-        for met in tally.missing(to_meet, at_least) {
+        let (function, at_least) = (&group.function, group.at_least);
+        for met in tally.missing(&group.to_meet, at_least) {
             println!("compare: fewer than {at_least} calls of {function} came to {met}");
             complete = false;
         }

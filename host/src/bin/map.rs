@@ -1,7 +1,8 @@
-//! Checks a map from files with the exported function, and prints what it says. The words behind the origin run the bridge,
+//! Checks a map from files with the exported function in the Rust's mode, and prints what it says. The words behind the origin run the bridge,
 //! where there is one.
 
 use host::answer::name;
+use host::arguments::RUST;
 use host::asked::Asked;
 use host::caller::Caller;
 use host::calls::Calls;
@@ -22,10 +23,11 @@ fn origin(word: &str) -> Option<u16> {
 
 /// The number and the address of the exported function.
 fn checked(drawn: &Drawn, bridge: &[String]) -> io::Result<(u8, u32)> {
-    let calls = Calls::of_map(drawn.clone());
+    let calls = Calls::of_map(RUST, drawn.clone());
     let mut caller = Caller::start(bridge, || Box::new([calls].into_iter()))?;
     let asked = Asked::Map(drawn.map());
     let call = Call {
+        mode: RUST,
         asked: &asked,
         room: 0,
         before: filled(0),

@@ -1,6 +1,7 @@
 //! Holds the program `replay_staged`, which runs the stages, to the original. The words of the command line run it; before
 //! them may stand `all`, for every input that begins with DD or FD.
 
+use host::arguments::RUST;
 use host::calls::Inputs;
 use host::outcome::expected;
 use host::piped::Piped;
@@ -15,7 +16,7 @@ fn hold(inputs: &Inputs, program: &mut Piped, tally: &mut Tally) -> io::Result<(
     for asked in inputs.asked() {
         let call = call(&asked);
         let found = outcome(program.read()?);
-        if let Some(text) = tally.add(&call, expected(&call, &said(&asked)), found) {
+        if let Some(text) = tally.add(&call, expected(&call, &said(RUST, &asked)), found) {
             println!("{text}");
         }
     }

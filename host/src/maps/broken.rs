@@ -6,6 +6,7 @@ use crate::arguments::ADDRESSES;
 use crate::arguments::{ENTRIES, PAIR};
 use crate::maps::{pairs, Drawn};
 use crate::mixed::Mixed;
+use crate::plain::{decoded, Mode};
 
 /// The rules of the map check, in the order of their numbers.
 pub fn rules() -> impl Iterator<Item = Refusal> {
@@ -54,12 +55,15 @@ fn cut(drawn: &mut Drawn, mixed: &mut Mixed) {
     drawn.marks.truncate(left);
 }
 
-/// Rows that break a rule where they are put, with the marks that they have then. Those of 10 do so at the image's end alone.
-const ROWS: [(Refusal, &[u8], &[u8]); 19] = [
+/// Rows that break a rule where they are put, with the marks that they have then. Those of 10 do so at the image's end alone, and
+/// in a mode that refuses them.
+const ROWS: [(Refusal, &[u8], &[u8]); 21] = [
     (Unfinished, &[0xDD], &[1]),
     (Unfinished, &[0xFD, 0x23], &[1, 2]),
     (Unfinished, &[0xDD, 0x66, 0x05], &[1, 2, 2]),
     (Unfinished, &[0xED, 0x00, 0xC9], &[1, 0, 1]),
+    (Unfinished, &[0xFD, 0xCB, 0x05], &[1, 2, 2]),
+    (Unfinished, &[0xDD, 0x36, 0x80], &[1, 2, 2]),
     (Unfinished, &[0x18], &[1]),
     (Unfinished, &[0xC3, 0x00], &[1, 2]),
     (Clipped, &[0x3E, 0x05], &[1, 0]),
@@ -78,14 +82,14 @@ const ROWS: [(Refusal, &[u8], &[u8]); 19] = [
 ];
 
 /// Breaks a rule in one of the ways that there are, somewhere in the map. What was broken before may be mended by that.
-pub fn break_rule(rule: Refusal, drawn: &mut Drawn, mixed: &mut Mixed) {
+pub fn break_rule(mode: Mode, rule: Refusal, drawn: &mut Drawn, mixed: &mut Mixed) {
     match rule {
         ImageSize => break_image_size(drawn, mixed),
         MarkSize => resize(&mut drawn.marks, mixed),
         EntryCount => break_entry_count(&mut drawn.entries, mixed),
         MarkValue => *one(&mut drawn.marks, mixed) = mixed.one_of(&[3, 4, 0x81, 0xFF]),
         EntryNotStart => add_entry(drawn, mixed),
-        _ => put_row(rule, drawn, mixed),
+        _ => put_row(mode, rule, drawn, mixed),
     }
 }
 
@@ -120,8 +124,10 @@ fn add_entry(drawn: &mut Drawn, mixed: &mut Mixed) {
     drawn.entries.splice(at..at, pairs(&[entry]));
 }
 
-fn put_row(rule: Refusal, drawn: &mut Drawn, mixed: &mut Mixed) {
-    let rows: Vec<_> = ROWS.iter().filter(|(broken, ..)| *broken == rule).collect();
+fn put_row(mode: Mode, rule: Refusal, drawn: &mut Drawn, mixed: &mut Mixed) {
+    let breaks = |row: &[u8]| rule != Unfinished || decoded(mode, row).is_err();
+    let rows = ROWS.iter().filter(|(broken, ..)| *broken == rule);
+    let rows: Vec<_> = rows.filter(|(_, row, _)| breaks(row)).collect();
     let (_, row, marks) = mixed.one_of(&rows);
     let last = drawn.image.len().saturating_sub(row.len());
     let at = match rule {
@@ -143,17 +149,18 @@ mod tests {
     use super::*;
     use crate::maps::grown::{grown, RET};
     use crate::plain::marking::holding;
+    use crate::plain::MODES;
 
     /// A map of RETs and data that passes.
-    fn map() -> Drawn {
+    fn map(mode: Mode) -> Drawn {
         let mut image = vec![RET; 16];
         image[8..].fill(0);
-        grown(image, 0x1000, &[0x1000, 0x1004, 0x1007])
+        grown(mode, image, 0x1000, &[0x1000, 0x1004, 0x1007])
     }
 
-    fn holds(rule: Refusal, drawn: &Drawn) -> bool {
+    fn holds(mode: Mode, rule: Refusal, drawn: &Drawn) -> bool {
         let map = drawn.map();
-        let mut holding = holding(&map);
+        let mut holding = holding(mode, &map);
         holding.any(|refused| refused.refusal == rule)
     }
 
@@ -161,11 +168,12 @@ mod tests {
     #[test]
     fn each_rule_is_broken() {
         let mut mixed = Mixed::new(0x5A80_0009);
-        for rule in rules() {
+        let rules = MODES.map(|mode| rules().map(move |rule| (mode, rule)));
+        for (mode, rule) in rules.into_iter().flatten() {
             let broken = (0..100).filter(|_| {
-                let mut drawn = map();
-                break_rule(rule, &mut drawn, &mut mixed);
-                holds(rule, &drawn)
+                let mut drawn = map(mode);
+                break_rule(mode, rule, &mut drawn, &mut mixed);
+                holds(mode, rule, &drawn)
             });
             let broken = broken.count();
             let by_luck = rule == EntryNotStart && (60..100).contains(&broken);
@@ -176,13 +184,17 @@ mod tests {
     /// Any two rules can hold together, and do so here.
     #[test]
     fn pairs_of_rules_are_broken() {
+        MODES.into_iter().for_each(pairs_are_broken_in);
+    }
+
+    fn pairs_are_broken_in(mode: Mode) {
         let mut mixed = Mixed::new(0x5A80_0081);
         for (first, second) in rules().flat_map(|a| rules().map(move |b| (a, b))) {
             let broken = (0..100).filter(|_| {
-                let mut drawn = map();
-                break_rule(first, &mut drawn, &mut mixed);
-                break_rule(second, &mut drawn, &mut mixed);
-                holds(first, &drawn) && holds(second, &drawn)
+                let mut drawn = map(mode);
+                break_rule(mode, first, &mut drawn, &mut mixed);
+                break_rule(mode, second, &mut drawn, &mut mixed);
+                holds(mode, first, &drawn) && holds(mode, second, &drawn)
             });
             let broken = broken.count();
             assert!(broken > 20, "{first:?} {second:?} {broken}");
@@ -192,7 +204,7 @@ mod tests {
     /// What is damaged, a length or what stands there, is found among all parts.
     #[test]
     fn damages() {
-        let (right, mut mixed) = (map(), Mixed::new(0x5A80_0008));
+        let (right, mut mixed) = (map(Mode::Rust), Mixed::new(0x5A80_0008));
         let mut met = [0; 8];
         for _ in 0..1000 {
             let wrong = damaged(&right, &mut mixed);

@@ -72,11 +72,12 @@ fn from(entries: Vec<u8>) -> Drawn {
 mod tests {
     use super::*;
     use crate::plain::marking::judged;
+    use crate::plain::Mode;
 
     /// By count: whole and wrong entries, each without half a pair and with it.
     #[test]
     fn by_hand() {
-        let said = entry_maps().map(|drawn| match judged(&drawn.map()) {
+        let said = entry_maps().map(|drawn| match judged(Mode::Rust, &drawn.map()) {
             Ok(()) => (0, 0),
             Err(refused) => (refused.refusal as u8, refused.address),
         });

@@ -8,6 +8,7 @@ use crate::maps::grown::{overgrown, RET};
 use crate::maps::lone::lone;
 use crate::maps::{pairs, Drawn};
 use crate::mixed::Mixed;
+use crate::plain::Mode;
 
 /// How many full maps there are, and damaged copies of each.
 const FULL: u32 = 4;
@@ -48,7 +49,7 @@ const RELATIVE: [(u16, u8); 14] = [
 ];
 
 /// Each of these rows alone in a full image, with its marks right and wrong.
-pub fn rows_at_ends() -> impl Iterator<Item = Drawn> {
+pub fn rows_at_ends(mode: Mode) -> impl Iterator<Item = Drawn> {
     let last = LAST_ROWS.into_iter().flat_map(|row| {
         let addresses = 0xFFFC..=0xFFFF;
         addresses.map(move |address| (address, row.to_vec()))
@@ -58,22 +59,22 @@ pub fn rows_at_ends() -> impl Iterator<Item = Drawn> {
         rows.map(move |(address, way)| (address, vec![code, way]))
     });
     let rows = last.chain(relative);
-    rows.flat_map(|(address, row)| lone(ADDRESSES, 0, address, &row))
+    rows.flat_map(move |(address, row)| lone(mode, ADDRESSES, 0, address, &row))
 }
 
-/// A full map that passes: nothing but code of every kind, and as many entries as there may be.
-pub fn full_map(seed: u32) -> Drawn {
+/// A full map that passes in a mode: nothing but code of every kind, and as many entries as there may be.
+pub fn full_map(mode: Mode, seed: u32) -> Drawn {
     let mut mixed = Mixed::new(seed);
     let image = flowing_code(ADDRESSES, 0, &mut mixed);
     let entry = |_| mixed.below(ADDRESSES) as u16;
     let entries: Vec<u16> = (0..ENTRIES).map(entry).collect();
-    overgrown(image, 0, &entries)
+    overgrown(mode, image, 0, &entries)
 }
 
 /// Full maps, each as it is and then with one thing damaged.
-pub fn full_maps() -> impl Iterator<Item = Drawn> {
-    (0..FULL).flat_map(|k| {
-        let drawn = full_map(0x5A80_6536 + k);
+pub fn full_maps(mode: Mode) -> impl Iterator<Item = Drawn> {
+    (0..FULL).flat_map(move |k| {
+        let drawn = full_map(mode, 0x5A80_6536 + k);
         let mut mixed = Mixed::new(0x5A80_6540 + k);
         let copies = [(); COPIES].map(|()| damaged(&drawn, &mut mixed));
         [drawn].into_iter().chain(copies)
@@ -109,16 +110,19 @@ pub fn sizes() -> impl Iterator<Item = Drawn> {
 mod tests {
     use super::*;
     use crate::plain::marking::judged;
+    use crate::plain::MODES;
 
     #[test]
     fn full_map_passes() {
-        let drawn = full_map(0x5A80_6536);
-        assert_eq!(judged(&drawn.map()), Ok(()));
-        assert!(drawn.image.len() == ADDRESSES && drawn.entries.len() == 512);
-        let starts = drawn.marks.iter().filter(|mark| **mark == START).count();
-        assert!((20_000..50_000).contains(&starts), "{starts}");
-        let rets = drawn.image.iter().filter(|byte| **byte == RET).count();
-        assert!(rets < 10_000, "{rets}");
+        for mode in MODES {
+            let drawn = full_map(mode, 0x5A80_6536);
+            assert_eq!(judged(mode, &drawn.map()), Ok(()));
+            assert!(drawn.image.len() == ADDRESSES && drawn.entries.len() == 512);
+            let starts = drawn.marks.iter().filter(|mark| **mark == START).count();
+            assert!((20_000..50_000).contains(&starts), "{starts}");
+            let rets = drawn.image.iter().filter(|byte| **byte == RET).count();
+            assert!(rets < 10_000, "{rets}");
+        }
     }
 
     /// The relative rows come in both kinds: across an end, and on their own side.

@@ -1,24 +1,25 @@
-//! Maps grown by following an image's code from entries.
+//! Maps grown by following an image's code in a mode from entries.
 
 use crate::arguments::{DATA, INSIDE, START};
 use crate::maps::{pairs, Drawn};
 use crate::original::OpCode;
-use crate::plain::decoded;
 use crate::plain::flow::next_places;
 use crate::plain::listing::window;
+use crate::plain::{decoded, Mode};
 
 /// What a row becomes that does not fit the map around it: RET, which has one byte and no next place.
 pub const RET: u8 = 0xC9;
 
 /// The map as far as it has grown, and the starts that are still to be followed.
 struct Growth {
+    mode: Mode,
     drawn: Drawn,
     open: Vec<u16>,
 }
 
 /// The marks that the code itself asks for, whether they keep the rules or not.
-pub fn followed(image: Vec<u8>, origin: u16, entries: &[u16]) -> Drawn {
-    let mut growth = Growth::begun(image, origin, entries);
+pub fn followed(mode: Mode, image: Vec<u8>, origin: u16, entries: &[u16]) -> Drawn {
+    let mut growth = Growth::begun(mode, image, origin, entries);
     while let Some(start) = growth.open.pop() {
         growth.follow(start);
     }
@@ -26,15 +27,15 @@ pub fn followed(image: Vec<u8>, origin: u16, entries: &[u16]) -> Drawn {
 }
 
 /// The same with RET in place of each row that does not fit, so that the map passes where all entries are in the image.
-pub fn grown(image: Vec<u8>, origin: u16, entries: &[u16]) -> Drawn {
-    let mut growth = Growth::begun(image, origin, entries);
+pub fn grown(mode: Mode, image: Vec<u8>, origin: u16, entries: &[u16]) -> Drawn {
+    let mut growth = Growth::begun(mode, image, origin, entries);
     growth.grow();
     growth.drawn
 }
 
 /// Grown from the entries, and then from each byte that is still data, so that in the end there is none.
-pub fn overgrown(image: Vec<u8>, origin: u16, entries: &[u16]) -> Drawn {
-    let mut growth = Growth::begun(image, origin, entries);
+pub fn overgrown(mode: Mode, image: Vec<u8>, origin: u16, entries: &[u16]) -> Drawn {
+    let mut growth = Growth::begun(mode, image, origin, entries);
     growth.grow();
     for at in 0..growth.drawn.image.len() {
         growth.reach(origin + at as u16);
@@ -44,7 +45,7 @@ pub fn overgrown(image: Vec<u8>, origin: u16, entries: &[u16]) -> Drawn {
 }
 
 impl Growth {
-    fn begun(image: Vec<u8>, origin: u16, entries: &[u16]) -> Growth {
+    fn begun(mode: Mode, image: Vec<u8>, origin: u16, entries: &[u16]) -> Growth {
         let marks = vec![DATA; image.len()];
         let entry_pairs = pairs(entries);
         let drawn = Drawn {
@@ -54,7 +55,7 @@ impl Growth {
             entries: entry_pairs,
         };
         let open = vec![];
-        let mut growth = Growth { drawn, open };
+        let mut growth = Growth { mode, drawn, open };
         for &entry in entries {
             growth.reach(entry);
         }
@@ -124,7 +125,7 @@ impl Growth {
     }
 
     fn record(&self, start: u16) -> Option<OpCode> {
-        decoded(window(&self.drawn.image, self.at(start))).ok()
+        decoded(self.mode, window(&self.drawn.image, self.at(start))).ok()
     }
 
     /// Where an address stands in the image.
@@ -139,11 +140,12 @@ mod tests {
     use crate::maps::flowing::{code_bytes, flowing_code, KINDS};
     use crate::mixed::Mixed;
     use crate::plain::marking::judged;
+    use crate::plain::MODES;
 
     #[test]
     fn by_hand() {
         let image = vec![0xCD, 0x05, 0x10, 0xC9, 0xFF, 0x3E, 0x05, 0xC9];
-        let drawn = grown(image.clone(), 0x1000, &[0x1000]);
+        let drawn = grown(Mode::Rust, image.clone(), 0x1000, &[0x1000]);
         assert_eq!(drawn.marks, [1, 2, 2, 1, 0, 1, 2, 1]);
         assert_eq!((drawn.image, drawn.entries), (image, vec![0x00, 0x10]));
     }
@@ -152,20 +154,28 @@ mod tests {
     #[test]
     fn rows_that_do_not_fit() {
         let image = vec![0x3E, 0x05, 0xC3, 0x01, 0x10];
-        assert_eq!(followed(image, 0x1000, &[0x1000]).marks, [1, 2, 1, 2, 2]);
+        let drawn = followed(Mode::Rust, image, 0x1000, &[0x1000]);
+        assert_eq!(drawn.marks, [1, 2, 1, 2, 2]);
         for image in [[0x3E, 0x05, 0x18, 0xFD], [0x3E, 0x05, 0xC7, 0xC7]] {
-            let drawn = grown(image.to_vec(), 0x1000, &[0x1000]);
+            let drawn = grown(Mode::Rust, image.to_vec(), 0x1000, &[0x1000]);
             assert_eq!(drawn.image[..3], [0x3E, 0x05, RET]);
             assert_eq!(drawn.marks, [1, 2, 1, 0]);
         }
-        let drawn = grown(vec![0x00, 0xDD, 0x23], 0x1000, &[0x1000]);
+        let drawn = grown(Mode::Rust, vec![0x00, 0xDD, 0x23], 0x1000, &[0x1000]);
         assert_eq!(drawn.image, [0x00, RET, 0x23]);
         assert_eq!(drawn.marks, [1, 1, 0]);
+        let drawn = grown(Mode::Chip, vec![0xDD, 0x23, 0x00], 0x1000, &[0x1000]);
+        assert_eq!(drawn.image, [0xDD, 0x23, RET]);
+        assert_eq!(drawn.marks, [1, 2, 1]);
     }
 
-    /// Grown maps pass, and have starts of each kind.
     #[test]
     fn grown_maps_pass() {
+        MODES.into_iter().for_each(grown_maps_pass_in);
+    }
+
+    /// Grown maps pass in their mode, and have starts of each kind.
+    fn grown_maps_pass_in(mode: Mode) {
         let mut mixed = Mixed::new(0x5A80_0015);
         let mut met = [0; KINDS.len()];
         for k in 0..2000 {
@@ -175,10 +185,10 @@ mod tests {
                 _ => flowing_code(count, 0, &mut mixed),
             };
             let entries = [mixed.below(count) as u16];
-            let full = overgrown(image.clone(), 0, &entries);
-            assert!(judged(&full.map()).is_ok() && !full.marks.contains(&DATA));
-            let drawn = grown(image, 0, &entries);
-            assert_eq!(judged(&drawn.map()), Ok(()), "{drawn:02X?}");
+            let full = overgrown(mode, image.clone(), 0, &entries);
+            assert!(judged(mode, &full.map()).is_ok() && !full.marks.contains(&DATA));
+            let drawn = grown(mode, image, 0, &entries);
+            assert_eq!(judged(mode, &drawn.map()), Ok(()), "{drawn:02X?}");
             for (kind, codes) in KINDS.iter().enumerate() {
                 met[kind] += starts_with(&drawn, codes);
             }

@@ -1,17 +1,18 @@
-//! A row alone in an image of RETs, with the marks that it asks for, and with each of them changed.
+//! A row alone in an image of RETs, with the marks that it asks for in a mode, and with each of them changed.
 
 use crate::arguments::{DATA, INSIDE, START};
 use crate::maps::grown::{followed, RET};
 use crate::maps::Drawn;
+use crate::plain::Mode;
 
 /// The row at an address of an image of so many bytes, which may end before the row does; then, each by itself, every mark
 /// that it asks for changed both ways, and an inside mark behind it.
-pub fn lone(size: usize, origin: u16, address: u16, row: &[u8]) -> Vec<Drawn> {
+pub fn lone(mode: Mode, size: usize, origin: u16, address: u16, row: &[u8]) -> Vec<Drawn> {
     let at = (address - origin) as usize;
     let mut image = vec![RET; size];
     let end = size.min(at + row.len());
     image[at..end].copy_from_slice(&row[..end - at]);
-    let drawn = followed(image, origin, &[address]);
+    let drawn = followed(mode, image, origin, &[address]);
     let mut maps = vec![drawn.clone()];
     for place in (0..size).filter(|place| drawn.marks[*place] != DATA) {
         let others = [DATA, START, INSIDE].into_iter();
@@ -36,7 +37,7 @@ mod tests {
 
     #[test]
     fn by_hand() {
-        let maps = lone(4, 0x1000, 0x1000, &[0x18, 0x01]);
+        let maps = lone(Mode::Rust, 4, 0x1000, 0x1000, &[0x18, 0x01]);
         let marks: Vec<&[u8]> = maps.iter().map(|map| &map.marks[..]).collect();
         let expected: [&[u8]; 8] = [
             &[1, 2, 0, 1],
@@ -49,7 +50,7 @@ mod tests {
             &[1, 2, 2, 1],
         ];
         assert_eq!(marks, expected);
-        let numbers = maps.iter().map(|map| judged(&map.map()));
+        let numbers = maps.iter().map(|map| judged(Mode::Rust, &map.map()));
         let numbers =
             numbers.map(|judged| judged.map_or_else(|refused| refused.refusal as u8, |()| 0));
         assert!(numbers.eq([0, 9, 9, 11, 11, 13, 13, 12]));
@@ -58,7 +59,7 @@ mod tests {
 
     #[test]
     fn cut_off() {
-        let maps = lone(2, 0xFFFE, 0xFFFF, &[0x18, 0x01]);
+        let maps = lone(Mode::Rust, 2, 0xFFFE, 0xFFFF, &[0x18, 0x01]);
         assert_eq!(
             (&maps[0].image[..], &maps[0].marks[..]),
             (&[RET, 0x18][..], &[0, 1][..])

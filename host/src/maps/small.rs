@@ -8,6 +8,7 @@ use crate::maps::flowing::flowing_code;
 use crate::maps::grown::{followed, grown, overgrown};
 use crate::maps::{pairs, Drawn};
 use crate::mixed::Mixed;
+use crate::plain::Mode;
 
 /// The longest image with every marking, and how many there are of each length.
 const MARKED_SIZE: usize = 6;
@@ -109,44 +110,44 @@ fn random(mixed: &mut Mixed) -> Drawn {
     }
 }
 
-pub fn grown_maps() -> impl Iterator<Item = Drawn> {
+pub fn grown_maps(mode: Mode) -> impl Iterator<Item = Drawn> {
     let mut mixed = Mixed::new(0x5A80_0137);
-    (0..GROWN).map(move |_| growing(1, GROWN_SIZE, &mut mixed))
+    (0..GROWN).map(move |_| growing(mode, 1, GROWN_SIZE, &mut mixed))
 }
 
 /// A map grown from one to four entries; one in eight as the code asks for it, whether that passes or not.
-fn growing(shortest: usize, longest: usize, mixed: &mut Mixed) -> Drawn {
+fn growing(mode: Mode, shortest: usize, longest: usize, mixed: &mut Mixed) -> Drawn {
     let length = shortest + mixed.below(longest + 1 - shortest);
     let (image, origin) = image(length, mixed);
     let count = 1 + mixed.below(4);
     let entry = |_| origin + mixed.below(length) as u16;
     let entries: Vec<u16> = (0..count).map(entry).collect();
     match mixed.below(8) {
-        0 => followed(image, origin, &entries),
-        1 => overgrown(image, origin, &entries),
-        _ => grown(image, origin, &entries),
+        0 => followed(mode, image, origin, &entries),
+        1 => overgrown(mode, image, origin, &entries),
+        _ => grown(mode, image, origin, &entries),
     }
 }
 
 /// Grown maps, each with one thing damaged, and in the next copy another.
-pub fn damaged_maps() -> impl Iterator<Item = Drawn> {
+pub fn damaged_maps(mode: Mode) -> impl Iterator<Item = Drawn> {
     let mut mixed = Mixed::new(0x5A80_0138);
     (0..DAMAGED).flat_map(move |_| {
-        let drawn = growing(1, GROWN_SIZE, &mut mixed);
+        let drawn = growing(mode, 1, GROWN_SIZE, &mut mixed);
         [(); COPIES].map(|()| damaged(&drawn, &mut mixed))
     })
 }
 
 /// Each two rules broken in a grown map, one after the other.
-pub fn broken_maps() -> impl Iterator<Item = Drawn> {
+pub fn broken_maps(mode: Mode) -> impl Iterator<Item = Drawn> {
     let (shortest, longest) = BROKEN_SIZES;
     let mut mixed = Mixed::new(0x5A80_0139);
     let pairs = rules().flat_map(|first| rules().map(move |second| [first, second]));
     let pairs = pairs.flat_map(|both| [both; BROKEN]);
     pairs.map(move |both| {
-        let mut drawn = growing(shortest, longest, &mut mixed);
+        let mut drawn = growing(mode, shortest, longest, &mut mixed);
         for rule in both {
-            break_rule(rule, &mut drawn, &mut mixed);
+            break_rule(mode, rule, &mut drawn, &mut mixed);
         }
         drawn
     })
@@ -156,6 +157,7 @@ pub fn broken_maps() -> impl Iterator<Item = Drawn> {
 mod tests {
     use super::*;
     use crate::plain::marking::judged;
+    use crate::plain::MODES;
 
     #[test]
     fn marks_by_hand() {
@@ -177,15 +179,18 @@ mod tests {
         }
     }
 
-    /// Most grown maps pass, and most damaged ones do not.
+    /// Most grown maps pass in their mode, and most damaged ones do not.
     #[test]
     fn shares() {
-        let passing = |maps: &mut dyn Iterator<Item = Drawn>| {
-            let maps = maps.take(2000);
-            maps.filter(|drawn| judged(&drawn.map()).is_ok()).count()
-        };
-        let (grown, damaged) = (passing(&mut grown_maps()), passing(&mut damaged_maps()));
-        assert!(grown > 1700 && grown < 2000, "{grown}");
-        assert!(damaged > 200 && damaged < 1000, "{damaged}");
+        for mode in MODES {
+            let passing = |maps: &mut dyn Iterator<Item = Drawn>| {
+                let judged = maps.take(2000).map(|drawn| judged(mode, &drawn.map()));
+                judged.filter(Result::is_ok).count()
+            };
+            let grown = passing(&mut grown_maps(mode));
+            let damaged = passing(&mut damaged_maps(mode));
+            assert!(grown > 1700 && grown < 2000, "{grown}");
+            assert!(damaged > 200 && damaged < 1000, "{damaged}");
+        }
     }
 }

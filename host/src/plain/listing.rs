@@ -1,10 +1,9 @@
-//! The rows of an image, as document 01's 'Listing' says, in the original's own words; a Short one with P3's number.
+//! The rows of an image in a mode, as document 01's 'Listing' says, in the original's own words; a Short one with P3's number.
 
 use super::missing::missing;
-use super::LARGEST_INPUT;
+use super::{decoded, Mode, LARGEST_INPUT};
 use crate::answer::Refusal;
 use crate::arguments::{Place, ADDRESSES};
-use crate::original::disas;
 
 /// A line, and how many bytes further the next row begins.
 #[derive(Debug, PartialEq, Eq, Clone)]
@@ -13,13 +12,16 @@ pub struct Row {
     pub passed: usize,
 }
 
-/// The row at a place. Where the original gives no record of the bytes, the first of them is shown and passed, and how many are
+/// The row at a place. Where the mode gives no record of the bytes, the first of them is shown and passed, and how many are
 /// missing is told.
-pub fn row(place: &Place) -> Result<Row, Refusal> {
+pub fn row(mode: Mode, place: &Place) -> Result<Row, Refusal> {
     let window = window_at(place)?;
-    let (text, passed) = match disas(window) {
-        Some(opcode) => (format!("{opcode:?}"), opcode.length as usize),
-        None => (format!("{:02X} \t\t?{}", window[0], missing(window)), 1),
+    let (text, passed) = match decoded(mode, window) {
+        Ok(opcode) => (format!("{opcode:?}"), opcode.length as usize),
+        Err(_) => (
+            format!("{:02X} \t\t?{}", window[0], missing(mode, window)),
+            1,
+        ),
     };
     let line = format!("{:04X} {text}\n", place.address).into_bytes();
     Ok(Row { line, passed })
@@ -44,7 +46,7 @@ pub fn window(image: &[u8], at: usize) -> &[u8] {
 }
 
 /// The rows of a whole image, each beginning where the one before ends.
-pub fn listing(image: &[u8], origin: u16) -> Result<Vec<Row>, Refusal> {
+pub fn listing(mode: Mode, image: &[u8], origin: u16) -> Result<Vec<Row>, Refusal> {
     let (mut rows, mut at) = (vec![], 0);
     loop {
         let place = Place {
@@ -52,7 +54,7 @@ pub fn listing(image: &[u8], origin: u16) -> Result<Vec<Row>, Refusal> {
             origin,
             address: origin + at as u16,
         };
-        let row = row(&place)?;
+        let row = row(mode, &place)?;
         at += row.passed;
         rows.push(row);
         if at >= image.len() {
@@ -74,7 +76,7 @@ mod tests {
             origin,
             address,
         };
-        super::row(&place)
+        super::row(Mode::Rust, &place)
     }
 
     fn done(line: &str, passed: usize) -> Result<Row, Refusal> {
@@ -84,7 +86,7 @@ mod tests {
 
     #[test]
     fn example() {
-        let rows = listing(&EXAMPLE, 0).unwrap();
+        let rows = listing(Mode::Rust, &EXAMPLE, 0).unwrap();
         let lines: Vec<Vec<u8>> = rows.iter().map(|row| row.line.clone()).collect();
         let expected = b"0000 21 34 12 \t\tLD\tHL, 1234 [4, 3, 3, 0, 0, 0]\n\
             0003 3E 05 \t\tLD\tA, 05 [4, 3, 0, 0, 0, 0]\n\
@@ -93,6 +95,20 @@ mod tests {
         assert_eq!(lines.concat(), expected);
         let passed: Vec<usize> = rows.iter().map(|row| row.passed).collect();
         assert_eq!(passed, [3, 2, 1, 1]);
+    }
+
+    /// The same in the chip's mode, for which the image's last two bytes are a row.
+    #[test]
+    fn example_in_chip_mode() {
+        let rows = listing(Mode::Chip, &EXAMPLE, 0).unwrap();
+        let passed: Vec<usize> = rows.iter().map(|row| row.passed).collect();
+        assert_eq!(passed, [3, 2, 2]);
+        assert_eq!(rows[2].line, b"0005 DD 23 \t\tINC\tIX [4, 6, 0, 0, 0, 0]\n");
+        let [idle, short] = [&[0xDD, 0xED][..], &[0xDD]].map(|image| listing(Mode::Chip, image, 0));
+        let idle = idle.unwrap();
+        assert_eq!(idle[0].line, b"0000 DD \t\tNOP\t [4, 0, 0, 0, 0, 0]\n");
+        assert_eq!(idle[1].line, b"0001 ED \t\t?1\n");
+        assert_eq!(short.unwrap()[0].line, b"0000 DD \t\t?1\n");
     }
 
     #[test]
@@ -119,8 +135,9 @@ mod tests {
             assert_eq!(row(&EXAMPLE, 0xFFFA, address), Err(Refusal::ImageSize));
         }
         assert_eq!(row(&[0; ADDRESSES + 1], 0, 0), Err(Refusal::ImageSize));
-        assert_eq!(listing(&[], 0), Err(Refusal::ImageSize));
-        assert_eq!(listing(&EXAMPLE, 0xFFFA), Err(Refusal::ImageSize));
+        assert_eq!(listing(Mode::Rust, &[], 0), Err(Refusal::ImageSize));
+        let over = listing(Mode::Rust, &EXAMPLE, 0xFFFA);
+        assert_eq!(over, Err(Refusal::ImageSize));
     }
 
     /// The window at the last address has one byte, whatever stands at the first one.
@@ -132,7 +149,8 @@ mod tests {
         let before = done("FFFE 00 \t\tNOP\t [4, 0, 0, 0, 0, 0]\n", 1);
         assert_eq!(row(&image, 0, 0xFFFE), before);
         assert_eq!(row(&image, 1, 0xFFFF), Err(Refusal::ImageSize));
-        assert_eq!(listing(&image, 0).unwrap().len(), ADDRESSES);
+        let rows = listing(Mode::Rust, &image, 0).unwrap();
+        assert_eq!(rows.len(), ADDRESSES);
     }
 
     #[test]
@@ -142,7 +160,8 @@ mod tests {
         assert_eq!(row(&[0x76], 0xFFFF, 0x0000), Err(Refusal::Nothing));
         assert_eq!(row(&[0x76], 0xFFFF, 0xFFFE), Err(Refusal::Nothing));
         assert_eq!(row(&[0x76, 0x76], 0xFFFF, 0xFFFF), Err(Refusal::ImageSize));
-        assert_eq!(listing(&[0x76], 0xFFFF).unwrap().len(), 1);
+        let rows = listing(Mode::Rust, &[0x76], 0xFFFF).unwrap();
+        assert_eq!(rows.len(), 1);
     }
 
     #[test]

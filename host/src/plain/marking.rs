@@ -1,9 +1,10 @@
 //! The map check, read plainly: where each of document 01's rules 5 to 13 holds, and which of them is answered. The decoder
-//! is the original's; each start is decoded once, before the rules of rows.
+//! is the mode's; each start is decoded once, before the rules of rows.
 
 use super::decoded;
 use super::flow::next_places;
 use super::listing::window;
+use super::Mode;
 use crate::answer::Refusal::*;
 use crate::answer::Refused;
 use crate::arguments::{Map, ADDRESSES, ENTRIES, INSIDE, PAIR, START};
@@ -11,17 +12,17 @@ use crate::original::OpCode;
 use std::iter;
 
 /// What the map check should answer: of all that holds the first.
-pub fn judged(map: &Map) -> Result<(), Refused> {
-    holding(map).next().map_or(Ok(()), Err)
+pub fn judged(mode: Mode, map: &Map) -> Result<(), Refused> {
+    holding(mode, map).next().map_or(Ok(()), Err)
 }
 
 /// 5, 6, 7, 8, 9 in that order, then the lowest address where any of 10 to 13 holds and there the lowest number. For 8 the
 /// lowest such address, for 9 the first such entry in list order. The starts are decoded when 10 is come to.
-pub fn holding<'a>(map: &'a Map) -> impl Iterator<Item = Refused> + 'a {
+pub fn holding<'a>(mode: Mode, map: &'a Map) -> impl Iterator<Item = Refused> + 'a {
     let sizes = map.wrong_sizes();
     let marks = sizes.chain(map.wrong_marks());
     let entries = marks.chain(map.wrong_entries());
-    entries.chain(iter::once_with(|| map.wrong_rows()).flatten())
+    entries.chain(iter::once_with(move || map.wrong_rows(mode)).flatten())
 }
 
 /// The rules, for this module alone.
@@ -54,8 +55,8 @@ impl Map<'_> {
     }
 
     /// 10 to 13, from the lowest address on, and at each from the lowest number on.
-    fn wrong_rows(&self) -> impl Iterator<Item = Refused> + '_ {
-        let rows = self.rows();
+    fn wrong_rows(&self, mode: Mode) -> impl Iterator<Item = Refused> + '_ {
+        let rows = self.rows(mode);
         self.addresses().flat_map(move |address| {
             let unfinished = rows.unfinished(address).then_some(Unfinished);
             let clipped = rows.clipped(address).then_some(Clipped);
@@ -114,10 +115,10 @@ impl Map<'_> {
     }
 
     /// The map with its starts decoded.
-    fn rows(&self) -> Rows<'_> {
+    fn rows(&self, mode: Mode) -> Rows<'_> {
         let places = 0..self.image.len();
         let records = places.map(|at| match self.marks.get(at) {
-            Some(&START) => decoded(window(self.image, at)).ok(),
+            Some(&START) => decoded(mode, window(self.image, at)).ok(),
             _ => None,
         });
         Rows {
@@ -195,9 +196,36 @@ mod tests {
     }
 
     fn number(map: Map) -> (u8, u16) {
-        match judged(&map) {
+        number_in(Mode::Rust, &map)
+    }
+
+    fn number_in(mode: Mode, map: &Map) -> (u8, u16) {
+        match judged(mode, map) {
             Ok(()) => (0, 0),
             Err(Refused { refusal, address }) => (refusal as u8, address),
+        }
+    }
+
+    /// Maps by what each mode says of them: a row that is there with two bytes, an undefined code of two, a prefix before ED.
+    #[test]
+    fn modes() {
+        let cases: [(&[u8], &[u8], _, _); 6] = [
+            (&[0xDD, 0x23, 0xC9], &[1, 2, 1], (10, 0), (0, 0)),
+            (&[0xED, 0x00, 0xC9, 0x00], &[1, 2, 1, 0], (13, 0), (0, 0)),
+            (&[0xED, 0x00, 0xC9, 0x00], &[1, 1, 1, 0], (0, 0), (11, 0)),
+            (&[0xDD, 0xED, 0x60, 0xC9], &[1, 2, 2, 1], (0, 0), (13, 0)),
+            (&[0xDD, 0xED, 0x60, 0xC9], &[1, 1, 2, 1], (11, 0), (0, 0)),
+            (&[0xDD, 0xE9], &[1, 2], (10, 0), (0, 0)),
+        ];
+        for (image, marks, rust, chip) in cases {
+            let map = Map {
+                image,
+                origin: 0,
+                marks,
+                entries: &[0, 0],
+            };
+            assert_eq!(number_in(Mode::Rust, &map), rust, "{image:02X?} {marks:?}");
+            assert_eq!(number_in(Mode::Chip, &map), chip, "{image:02X?} {marks:?}");
         }
     }
 

@@ -47,7 +47,7 @@ pub fn chosen(choice: u8, opcode: &OpCode) -> String {
 mod tests {
     use super::*;
     use crate::pages::{edged, ED_BEHIND, PAGES};
-    use crate::plain::decoded;
+    use crate::plain::{decoded, Mode, MODES};
 
     /// By choice, a tab written as >.
     #[test]
@@ -73,26 +73,29 @@ mod tests {
             "00 >>NOP> [4, 0, 0, 0, 0, 0]",
         ];
         for (ins, texts) in [(&[0x21, 0x34, 0x12][..], load), (&[0x00], idle)] {
-            let opcode = decoded(ins).unwrap();
+            let opcode = decoded(Mode::Rust, ins).unwrap();
             let found = [0, 1, 2, 3, 4, 5, 6, 7].map(|choice| chosen(choice, &opcode));
             assert_eq!(found, texts.map(|text| text.replace('>', "\t")));
         }
     }
 
-    /// On every page the two that the original has are its own, byte for byte, and no text of a choice is longer than this.
+    /// On every page the two that the original has are its own, byte for byte, and no text of a choice is longer than this, in
+    /// either mode.
     #[test]
     fn on_every_page() {
-        let pages = PAGES.iter().chain(&ED_BEHIND);
-        let mut longest = [0; 8];
-        for ins in pages.flat_map(|prefix| edged(prefix, 4)) {
-            let opcode = decoded(&ins).unwrap();
-            assert_eq!(chosen(6, &opcode), format!("{opcode}"));
-            assert_eq!(chosen(7, &opcode), format!("{opcode:?}"));
-            for (choice, longest) in (0..).zip(&mut longest) {
-                *longest = chosen(choice, &opcode).len().max(*longest);
+        for mode in MODES {
+            let pages = PAGES.iter().chain(&ED_BEHIND);
+            let mut longest = [0; 8];
+            for ins in pages.flat_map(|prefix| edged(prefix, 4)) {
+                let opcode = decoded(mode, &ins).unwrap();
+                assert_eq!(chosen(6, &opcode), format!("{opcode}"));
+                assert_eq!(chosen(7, &opcode), format!("{opcode:?}"));
+                for (choice, longest) in (0..).zip(&mut longest) {
+                    *longest = chosen(choice, &opcode).len().max(*longest);
+                }
             }
+            assert_eq!(longest, [0, 14, 19, 33, 19, 33, 38, 52], "{mode:?}");
         }
-        assert_eq!(longest, [0, 14, 19, 33, 19, 33, 38, 52]);
     }
 
     #[test]

@@ -45,6 +45,7 @@ mod tests {
     use super::*;
     use crate::original::disas;
     use crate::pages::{edged, ED_BEHIND, PAGES};
+    use crate::plain::{decoded, MODES};
 
     /// What UM0080 says of the rows at each of some codes, each with the same bytes before and behind.
     fn check(before: &[u8], codes: &[u8], behind: &[u8], least: u8, most: u8) {
@@ -107,13 +108,15 @@ mod tests {
         }
     }
 
-    /// On every page, with document 01's bounds of a row time.
+    /// On every page in both modes, with document 01's bounds of a row time.
     #[test]
     fn least_never_exceeds_most() {
         let pages = PAGES.iter().chain(&ED_BEHIND);
         for row in pages.flat_map(|prefix| edged(prefix, 4)) {
-            let RowTimes { least, most } = row_times(&disas(&row).unwrap());
-            assert!(4 <= least && least <= most && most <= 23, "{row:02X?}");
+            for mode in MODES {
+                let RowTimes { least, most } = row_times(&decoded(mode, &row).unwrap());
+                assert!(4 <= least && least <= most && most <= 23, "{row:02X?}");
+            }
         }
     }
 }

@@ -6,6 +6,7 @@ use super::marking::judged;
 use super::missing::missing;
 use super::parts::{chosen, is_choice};
 use super::record::record;
+use super::Mode;
 use crate::answer::{Refusal, Refused};
 use crate::asked::Asked;
 use crate::function::{Function, FULL_TEXT, PLAIN_TEXT};
@@ -25,36 +26,49 @@ pub struct Said {
     pub missing: usize,
 }
 
-pub fn said(asked: &Asked) -> Said {
-    let written = written(asked);
+/// A number that is no mode is refused before all else.
+pub fn said(mode: u8, asked: &Asked) -> Said {
+    match Mode::numbered(mode) {
+        Ok(mode) => said_in(mode, asked),
+        Err(refusal) => Said {
+            written: Err(refusal.into()),
+            missing: 0,
+        },
+    }
+}
+
+fn said_in(mode: Mode, asked: &Asked) -> Said {
+    let written = written(mode, asked);
     let missing = match (asked, &written) {
-        (Asked::Bytes(_, ins), Err(refused)) if refused.refusal == Refusal::Short => missing(ins),
+        (Asked::Bytes(_, ins), Err(refused)) if refused.refusal == Refusal::Short => {
+            missing(mode, ins)
+        }
         _ => 0,
     };
     Said { written, missing }
 }
 
-fn written(asked: &Asked) -> Result<Written, Refused> {
+fn written(mode: Mode, asked: &Asked) -> Result<Written, Refused> {
     let (bytes, passed) = match asked {
-        Asked::Bytes(function, ins) => (said_of_bytes(*function, ins)?, 0),
+        Asked::Bytes(function, ins) => (said_of_bytes(mode, *function, ins)?, 0),
         Asked::Row(place) => {
-            let row = row(place)?;
+            let row = row(mode, place)?;
             (row.line, row.passed)
         }
         Asked::Map(map) => {
-            judged(map)?;
+            judged(mode, map)?;
             (vec![], 0)
         }
     };
     Ok(Written { bytes, passed })
 }
 
-/// What the original says of some bytes; a number that is no choice of a text is refused before they are looked at.
-pub fn said_of_bytes(function: Function, ins: &[u8]) -> Result<Vec<u8>, Refusal> {
+/// What is said of some bytes in a mode; a number that is no choice of a text is refused before they are looked at.
+pub fn said_of_bytes(mode: Mode, function: Function, ins: &[u8]) -> Result<Vec<u8>, Refusal> {
     if matches!(function, Function::Text(choice) if !is_choice(choice)) {
         return Err(Refusal::BadChoice);
     }
-    let opcode = decoded(ins)?;
+    let opcode = decoded(mode, ins)?;
     let mut said = vec![];
     let written = write(function, opcode, &mut said);
     written.expect("a Vec takes every byte");

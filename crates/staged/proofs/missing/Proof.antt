@@ -5,6 +5,7 @@ use native.Mathlib.Omega.{arith}
 use borrow.Author.Needs.{needs}
 use denote.Ref.{now}
 use Rattle.table.specs.Decode.{neededOf}
+use Rattle.table.specs.declared.Mode.{Mode}
 use Rattle.table.proofs.Sizes.{needed-at-most}
 use Rattle.stage.specs.declared.rows.Stage.{Stage}
 use Rattle.staged.proofs.Needed.{two-told, two-left, three-told, three-left}
@@ -38,7 +39,7 @@ four-needed c =
     let s = c .before .before .before .before .before .before .before .args in
     let not-two = two-not (c .before .before) in
     let not-three = three-left (now (s .ins)) _ (s .rec) (search needs) (sym (ap (λ (q : Stage). q .ok) (c .before .three-bytes .ensures)) ∙ c .if2 .left) in
-    last (neededOf (now (s .ins))) (search needs) (needed-at-most (now (s .ins))) not-two not-three
+    last (neededOf (now (s .ins))) (search needs) (needed-at-most Mode.Rust (now (s .ins))) not-two not-three
 
 pub missing-spec : {M : Type 1} → statement M
 missing-spec =

@@ -1,4 +1,4 @@
-//! Times the exported functions against the original, both in one run on the same inputs.
+//! Times the exported functions in both modes against the original, all in one run on the same inputs.
 
 mod calls;
 mod inputs;

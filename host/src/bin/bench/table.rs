@@ -8,17 +8,19 @@ pub struct Table {
 }
 
 impl Table {
+    /// The ratios are ours over theirs, and the chip's mode over the Rust's.
     pub fn add(&mut self, inputs: &str, work: &str, times: &Times) {
-        let Times { ours, theirs } = times;
-        let ratio = ours / theirs;
-        let line =
-            format!("| {inputs:<12} | {work:<18} | {ours:>7.1} | {theirs:>9.1} | {ratio:>5.2} |");
-        self.lines.push(line);
+        let Times { rust, chip, theirs } = times;
+        let (ratio, modes) = (rust / theirs, chip / rust);
+        let figures =
+            format!("{rust:>7.1} | {theirs:>9.1} | {ratio:>5.2} | {chip:>7.1} | {modes:>9.2}");
+        self.lines
+            .push(format!("| {inputs:<12} | {work:<18} | {figures} |"));
     }
 
     pub fn print(&self) {
-        println!("| inputs       | work               | ours ns | theirs ns | ratio |");
-        println!("|--------------|--------------------|--------:|----------:|------:|");
+        println!("| inputs       | work               | ours ns | theirs ns | ratio | chip ns | chip/ours |");
+        println!("|--------------|--------------------|--------:|----------:|------:|--------:|----------:|");
         for line in &self.lines {
             println!("{line}");
         }

@@ -2,8 +2,8 @@
 //! these, the fourth byte running through all values as they go on, and all 256 passes together have every input once.
 
 use crate::hash::hash;
+use crate::kind::Kind;
 use crate::left::Left;
-use host::function::Function;
 
 /// So many blocks, and so many inputs in each.
 pub const BLOCKS: usize = 1 << 16;
@@ -32,8 +32,8 @@ pub fn inputs(block: u16) -> impl Iterator<Item = u32> {
 }
 
 /// The hash that the original gives a block.
-pub fn by_original(function: Function, block: u16) -> u64 {
-    hash(inputs(block).map(|input| Left::by_original(function, input)))
+pub fn by_original(kind: Kind, block: u16) -> u64 {
+    hash(inputs(block).map(|input| Left::by_original(kind, input)))
 }
 
 #[cfg(test)]

@@ -1,8 +1,8 @@
 //! The archive's side, host/blocks.c, in a child process.
 
 use crate::block::{first, INPUTS};
+use crate::kind::Kind;
 use crate::left::Left;
-use host::function::Function;
 use host::piped::Piped;
 use std::io::{self, Write};
 use std::process::ChildStdin;
@@ -16,17 +16,17 @@ enum Wanted {
 pub struct Archive {
     program: Piped,
     requests: ChildStdin,
-    function: Function,
+    kind: Kind,
 }
 
 impl Archive {
-    /// The words are the command that runs the program; the function is what it is asked for.
-    pub fn start(words: &[String], function: Function) -> io::Result<Archive> {
+    /// The words are the command that runs the program; the kind is what it is asked for.
+    pub fn start(words: &[String], kind: Kind) -> io::Result<Archive> {
         let (program, requests) = Piped::start(words)?;
         Ok(Archive {
             program,
             requests,
-            function,
+            kind,
         })
     }
 
@@ -53,11 +53,12 @@ impl Archive {
         })
     }
 
-    /// What is wanted, function, first input, how many: four bytes each, low byte first.
+    /// What is wanted, mode, function, first input, how many: four bytes each, low byte first.
     fn ask(&mut self, wanted: Wanted, block: u16) -> io::Result<()> {
         let numbers = [
             wanted as u32,
-            self.function.number().into(),
+            self.kind.mode as u32,
+            self.kind.function.number().into(),
             first(block),
             INPUTS as u32,
         ];

@@ -1,29 +1,42 @@
 //! What may be compared, by the words of the command line.
 
 use host::function::{Function, FULL_TEXT, PLAIN_TEXT};
+use host::plain::Mode;
 
+/// A function in a mode.
 #[derive(Debug, PartialEq, Eq, Clone, Copy)]
 pub struct Kind {
     pub name: &'static str,
+    pub mode: Mode,
     pub function: Function,
 }
 
-const fn kind(name: &'static str, function: Function) -> Kind {
-    Kind { name, function }
+const fn kind(name: &'static str, mode: Mode, function: Function) -> Kind {
+    Kind {
+        name,
+        mode,
+        function,
+    }
 }
 
-const KINDS: [Kind; 3] = [
-    kind("records", Function::Record),
-    kind("texts", PLAIN_TEXT),
-    kind("full_texts", FULL_TEXT),
+pub const RECORDS: Kind = kind("records", Mode::Rust, Function::Record);
+
+pub const KINDS: [Kind; 6] = [
+    RECORDS,
+    kind("texts", Mode::Rust, PLAIN_TEXT),
+    kind("full_texts", Mode::Rust, FULL_TEXT),
+    kind("chip_records", Mode::Chip, Function::Record),
+    kind("chip_texts", Mode::Chip, PLAIN_TEXT),
+    kind("chip_full_texts", Mode::Chip, FULL_TEXT),
 ];
 
-/// The kinds that are named, all where none is; nothing where a word names none.
+/// The kinds that are named, those of the Rust's mode where none is; nothing where a word names none.
 pub fn kinds(words: &[String]) -> Option<Vec<Kind>> {
     let is_named = |kind: &Kind| words.iter().any(|word| word == kind.name);
     let is_kind = |word: &String| KINDS.iter().any(|kind| kind.name == word);
     if words.is_empty() {
-        return Some(KINDS.to_vec());
+        let kinds = KINDS.into_iter();
+        return Some(kinds.filter(|kind| kind.mode == Mode::Rust).collect());
     }
     let named = KINDS.into_iter().filter(is_named).collect();
     words.iter().all(is_kind).then_some(named)
@@ -40,8 +53,9 @@ mod tests {
 
     #[test]
     fn by_name() {
-        let [records, texts, full_texts] = KINDS;
+        let [records, texts, full_texts, chip_records, ..] = KINDS;
         assert_eq!(named(&[]), Some(vec![records, texts, full_texts]));
+        assert_eq!(named(&["chip_records"]), Some(vec![chip_records]));
         assert_eq!(named(&["texts"]), Some(vec![texts]));
         let twice = named(&["full_texts", "records", "full_texts"]);
         assert_eq!(twice, Some(vec![records, full_texts]));

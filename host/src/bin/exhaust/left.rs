@@ -1,6 +1,7 @@
-//! What a call leaves in the places lent to it, and what the original has it leave.
+//! What a call leaves in the places lent to it, and what the original, in the chip's mode the plain reading, has it leave.
 
 use crate::block::bytes;
+use crate::kind::Kind;
 use host::answer::Refusal;
 use host::answer::RECORD_SIZE;
 use host::answer::TEXT_MAX;
@@ -31,8 +32,8 @@ pub struct Left {
 impl Left {
     /// What the original has a call leave, on the four bytes of a number, the highest first. Those are never refused, so none are
     /// missing, and a refusal is one for room, which writes nothing.
-    pub fn by_original(function: Function, input: u32) -> Left {
-        let decoded = decoded(&bytes(input));
+    pub fn by_original(kind: Kind, input: u32) -> Left {
+        let (function, decoded) = (kind.function, decoded(kind.mode, &bytes(input)));
         match decoded.and_then(|opcode| Left::written(function, opcode)) {
             Ok(left) => left,
             Err(refusal) => Left::new(function, refusal as u32, 0, [FILL; LENT]),
@@ -111,40 +112,48 @@ impl fmt::Display for Left {
 #[cfg(test)]
 mod tests {
     use super::*;
-    use host::function::{FULL_TEXT, PLAIN_TEXT};
+    use crate::kind::KINDS;
+    use host::function::FULL_TEXT;
+    use host::plain::Mode;
 
     /// These bytes at the front, then the fill.
     fn lent(written: &[u8]) -> [u8; LENT] {
         std::array::from_fn(|place| *written.get(place).unwrap_or(&0xA5))
     }
 
+    /// JR -126, which is the same in both modes.
     #[test]
     fn by_hand() {
         let record =
             b"\x02\x1C\x03\x82\xFF\0\0\0\0\0\0\x18\x80\x56\x78\x04\x03\x05\0\0\0\x03\x0C\x0C";
         let plain = b"JR\t-126 [4, 3, 5, 0, 0, 0]";
         let full = b"18 80 \t\tJR\t-126 [4, 3, 5, 0, 0, 0]";
-        let expected = [
-            (Function::Record, 0xA5A5_A5A5, &record[..]),
-            (PLAIN_TEXT, 26, plain),
-            (FULL_TEXT, 34, full),
-        ];
-        for (function, count, written) in expected {
+        let expected: [(u32, &[u8]); 3] = [(0xA5A5_A5A5, record), (26, plain), (34, full)];
+        for (kind, (count, written)) in KINDS.into_iter().zip(expected.iter().cycle()) {
             let expected = Left {
                 number: 0,
-                count,
+                count: *count,
                 missing: 0,
                 lent: lent(written),
             };
-            let left = Left::by_original(function, 0x8A18_8056);
+            let left = Left::by_original(kind, 0x8A18_8056);
             assert_eq!(left, expected, "{left}");
         }
+    }
+
+    /// INC IX, in which the modes differ.
+    #[test]
+    fn by_mode() {
+        let shown = |kind| Left::by_original(kind, 0x00_DD_23_00).to_string();
+        let text = |times| format!(r#"0, count 25, "INC\tIX [{times}, 0, 0, 0, 0]""#);
+        assert_eq!(shown(KINDS[1]), text("6, 4"));
+        assert_eq!(shown(KINDS[4]), text("4, 6"));
     }
 
     /// No text of a decoded row is longer than the room, so one is made longer: it has (IX-128) twice.
     #[test]
     fn no_room() {
-        let mut opcode = decoded(&[0xDD, 0xCB, 0x80, 0xC7]).unwrap();
+        let mut opcode = decoded(Mode::Rust, &[0xDD, 0xCB, 0x80, 0xC7]).unwrap();
         assert!(Left::written(FULL_TEXT, opcode.clone()).is_ok());
         opcode.op1 = opcode.op2;
         let refused = Left::written(FULL_TEXT, opcode);
@@ -165,9 +174,9 @@ mod tests {
 
     #[test]
     fn shown() {
-        let text = Left::by_original(PLAIN_TEXT, 0).to_string();
+        let text = Left::by_original(KINDS[1], 0).to_string();
         assert_eq!(text, r#"0, count 23, "NOP\t [4, 0, 0, 0, 0, 0]""#);
-        let mut record = Left::by_original(Function::Record, 0);
+        let mut record = Left::by_original(KINDS[0], 0);
         let bytes = "01, 23, 00, 00, 00, 00, 00, 00, 00, 00, 00, 00, 00, 00, 00, 04, 00, 00, 00, 00, 00, 01, 04, 04";
         assert_eq!(record.to_string(), format!("0, [{bytes}]"));
         record.lent[25] = 0;

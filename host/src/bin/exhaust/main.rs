@@ -1,4 +1,5 @@
-//! Holds the archive to the original on all inputs of four bytes, by the hashes of blocks; host/exhaust gives it its words.
+//! Holds the archive to the original, and in the chip's mode to the plain reading of that, on all inputs of four bytes, by the
+//! hashes of blocks; host/exhaust gives it its words.
 
 mod block;
 mod child;
@@ -64,7 +65,7 @@ fn compare(words: &Words) -> io::Result<bool> {
 fn main() -> ExitCode {
     let words: Vec<String> = env::args().skip(1).collect();
     let Some(words) = parsed(&words) else {
-        eprintln!("usage: host/exhaust [records|texts|full_texts]...");
+        eprintln!("usage: host/exhaust [[chip_]records|[chip_]texts|[chip_]full_texts]...");
         return ExitCode::from(2);
     };
     match compare(&words) {

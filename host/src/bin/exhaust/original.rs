@@ -3,7 +3,6 @@
 use crate::block::by_original;
 use crate::kept::Kept;
 use crate::kind::Kind;
-use host::function::Function;
 use std::io;
 use std::path::Path;
 
@@ -11,7 +10,7 @@ use std::path::Path;
 const UNKNOWN: [u8; 8] = [0; 8];
 
 pub struct Original {
-    function: Function,
+    kind: Kind,
     hashes: Kept<8>,
 }
 
@@ -19,12 +18,12 @@ impl Original {
     /// Goes on with a kind's file in the folder that is whole and names this original; any other is made anew.
     pub fn open(folder: &Path, original: &str, kind: Kind) -> io::Result<Original> {
         let path = folder.join(format!("{}_of_original", kind.name));
-        Original::in_file(&path, original, kind.function)
+        Original::in_file(&path, original, kind)
     }
 
-    fn in_file(path: &Path, original: &str, function: Function) -> io::Result<Original> {
+    fn in_file(path: &Path, original: &str, kind: Kind) -> io::Result<Original> {
         let hashes = Kept::open(path, original, UNKNOWN, |_| true)?;
-        Ok(Original { function, hashes })
+        Ok(Original { kind, hashes })
     }
 
     /// Whether this is the hash of a block. What is kept can only say yes: where it does not, the original is asked.
@@ -33,7 +32,7 @@ impl Original {
         if kept != UNKNOWN && kept == hash.to_le_bytes() {
             return Ok(true);
         }
-        let right = by_original(self.function, block);
+        let right = by_original(self.kind, block);
         self.hashes.write(block, right.to_le_bytes())?;
         Ok(hash == right)
     }
@@ -43,11 +42,12 @@ impl Original {
 mod tests {
     use super::*;
     use crate::kept::Scratch;
+    use crate::kind::RECORDS;
 
     const BLOCK: u16 = 0xDD36;
 
     fn opened(scratch: &Scratch, original: &str) -> Original {
-        Original::in_file(&scratch.0, original, Function::Record).unwrap()
+        Original::in_file(&scratch.0, original, RECORDS).unwrap()
     }
 
     fn kept(scratch: &Scratch, original: &str) -> [u8; 8] {
@@ -58,7 +58,7 @@ mod tests {
     #[test]
     fn right_hashes_alone() {
         let scratch = Scratch::new("hashes");
-        let right = by_original(Function::Record, BLOCK);
+        let right = by_original(RECORDS, BLOCK);
         for _ in 0..2 {
             let original = opened(&scratch, "original");
             assert!(!original.gives(BLOCK, right ^ 1).unwrap());
@@ -71,7 +71,7 @@ mod tests {
     #[test]
     fn a_wrong_one_is_put_right() {
         let scratch = Scratch::new("wrong");
-        let right = by_original(Function::Record, BLOCK);
+        let right = by_original(RECORDS, BLOCK);
         let original = opened(&scratch, "original");
         let wrong = (right ^ 1).to_le_bytes();
         original.hashes.write(BLOCK, wrong).unwrap();
@@ -82,7 +82,7 @@ mod tests {
     #[test]
     fn another_original_has_none() {
         let scratch = Scratch::new("another");
-        let right = by_original(Function::Record, BLOCK);
+        let right = by_original(RECORDS, BLOCK);
         assert!(opened(&scratch, "original").gives(BLOCK, right).unwrap());
         assert_eq!(kept(&scratch, "another"), UNKNOWN);
     }

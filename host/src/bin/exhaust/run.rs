@@ -66,9 +66,9 @@ impl<'a> Run<'a> {
     /// Compares all blocks that are still open with what the original gives.
     pub fn compare(mut self, original: &Original) -> io::Result<Tally> {
         let queue = Queue::new(mem::take(&mut self.progress.open));
-        let (archive, function) = (self.archive, self.kind.function);
+        let (archive, kind) = (self.archive, self.kind);
         let worker = |to: Sender<_>| {
-            if let Err(error) = work(archive, function, original, &queue, &to) {
+            if let Err(error) = work(archive, kind, original, &queue, &to) {
                 // Where nobody listens any more, another error came first.
                 let _ = to.send(Err(error));
             }
@@ -112,7 +112,7 @@ impl<'a> Run<'a> {
 
     /// Searches a differing block, and prints what is found.
     fn show(&self, block: u16) -> io::Result<()> {
-        let found = search(self.archive, self.kind.function, block)?;
+        let found = search(self.archive, self.kind, block)?;
         let found = match found {
             Some(difference) => difference.to_string(),
             None => "its hash differs, but no call does when it is made again".into(),

@@ -2,9 +2,9 @@
 
 use crate::block::{bytes, inputs, INPUTS};
 use crate::child::Archive;
+use crate::kind::Kind;
 use crate::left::Left;
 use crate::tally::grouped;
-use host::function::Function;
 use std::{fmt, io};
 
 /// The first input where they differ, with what both sides leave, and how many there are.
@@ -17,23 +17,23 @@ pub struct Difference {
 }
 
 /// Asks the archive for all that the calls of a block leave, and holds it to the original.
-pub fn search(words: &[String], function: Function, block: u16) -> io::Result<Option<Difference>> {
-    let mut archive = Archive::start(words, function)?;
+pub fn search(words: &[String], kind: Kind, block: u16) -> io::Result<Option<Difference>> {
+    let mut archive = Archive::start(words, kind)?;
     archive.ask_all(block)?;
-    let found = difference(function, block, |_| archive.left())?;
+    let found = difference(kind, block, |_| archive.left())?;
     archive.finish()?;
     Ok(found)
 }
 
 /// The difference, with `here` to say what the call of each input leaves, one behind the other.
 fn difference(
-    function: Function,
+    kind: Kind,
     block: u16,
     mut here: impl FnMut(u32) -> io::Result<Left>,
 ) -> io::Result<Option<Difference>> {
     let mut found: Option<Difference> = None;
     for input in inputs(block) {
-        let (original, here) = (Left::by_original(function, input), here(input)?);
+        let (original, here) = (Left::by_original(kind, input), here(input)?);
         if original == here {
             continue;
         }
@@ -66,18 +66,18 @@ mod tests {
     use super::*;
     use crate::block::by_original;
     use crate::hash::hash;
+    use crate::kind::RECORDS;
 
     const BLOCK: u16 = 0xDD36;
-    const FUNCTION: Function = Function::Record;
 
     /// Stands in for the archive: the original, but for the record of another input where it is damaged.
     fn stand_in(input: u32, damaged: &[u32]) -> Left {
         let other = damaged.contains(&input) as u32;
-        Left::by_original(FUNCTION, input ^ other)
+        Left::by_original(RECORDS, input ^ other)
     }
 
     fn found(damaged: &[u32]) -> Option<Difference> {
-        difference(FUNCTION, BLOCK, |input| Ok(stand_in(input, damaged))).unwrap()
+        difference(RECORDS, BLOCK, |input| Ok(stand_in(input, damaged))).unwrap()
     }
 
     #[test]
@@ -90,8 +90,8 @@ mod tests {
         for first in [0xDD36_0000, 0xDD36_8007, 0xDD36_FFFF] {
             let expected = Difference {
                 first,
-                original: Left::by_original(FUNCTION, first),
-                here: Left::by_original(FUNCTION, first ^ 1),
+                original: Left::by_original(RECORDS, first),
+                here: Left::by_original(RECORDS, first ^ 1),
                 differing: 1,
             };
             assert_eq!(found(&[first]), Some(expected));
@@ -111,7 +111,7 @@ mod tests {
     #[test]
     fn hashes_of_such_blocks_differ() {
         let hash_of = |damaged: &[u32]| hash(inputs(BLOCK).map(|input| stand_in(input, damaged)));
-        let right = by_original(FUNCTION, BLOCK);
+        let right = by_original(RECORDS, BLOCK);
         assert_eq!(hash_of(&[]), right);
         for input in [0xDD36_0000, 0xDD36_8007, 0xDD36_FFFF] {
             assert_ne!(hash_of(&[input]), right);

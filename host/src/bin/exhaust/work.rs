@@ -1,8 +1,8 @@
 //! The workers: each holds blocks of its archive to the original.
 
 use crate::child::Archive;
+use crate::kind::Kind;
 use crate::original::Original;
-use host::function::Function;
 use std::io;
 use std::sync::atomic::{AtomicUsize, Ordering};
 use std::sync::mpsc::Sender;
@@ -34,12 +34,12 @@ pub struct Compared {
 /// Compares blocks until there are none, or nobody listens any more.
 pub fn work(
     words: &[String],
-    function: Function,
+    kind: Kind,
     original: &Original,
     queue: &Queue,
     to: &Sender<io::Result<Compared>>,
 ) -> io::Result<()> {
-    let mut archive = Archive::start(words, function)?;
+    let mut archive = Archive::start(words, kind)?;
     let mut next = asked(queue, &mut archive)?;
     while let Some(block) = next {
         let failed = |error| at(block, error);
