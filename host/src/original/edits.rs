@@ -106,7 +106,11 @@ mod tests {
             let mut record = timed(&[4, 3, 10, 11, 12, 13]);
             record.mcycles = 2;
             assert!(edit.done(&mut record));
-            assert_eq!((record.tstates, record.mcycles), (places, count), "{edit:?}");
+            assert_eq!(
+                (record.tstates, record.mcycles),
+                (places, count),
+                "{edit:?}"
+            );
         }
     }
 
