@@ -1,2 +1,1 @@
-pub mod Other
 pub mod Sum

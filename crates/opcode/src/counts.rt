@@ -1,23 +1,23 @@
 // Three counts that are never added to one another, the time of a row, and how that varies.
 
 // The T-states of one machine cycle.
-#[derive(Drop)]
+#[derive(Clone, Copy)]
 pub struct TStates(pub u8);
 
 // How many machine cycles a row takes.
-#[derive(Drop)]
+#[derive(Clone, Copy)]
 pub struct MCycles(pub u8);
 
 // How many bytes a row is long.
-#[derive(Drop)]
+#[derive(Clone, Copy)]
 pub struct Bytes(pub u8);
 
 // The time of a row: at most five more than the sum of six T-state places, 1,530, which is more than `TStates` holds.
-#[derive(Drop)]
+#[derive(Clone, Copy)]
 pub struct RowTime(pub u16);
 
 // How the time of a row varies.
-#[derive(Drop)]
+#[derive(Clone, Copy)]
 pub enum Pace {
     Steady,
     // So many at least.

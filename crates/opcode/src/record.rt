@@ -10,7 +10,7 @@ use super::times::row_times;
 
 // The first `mcycles` of the six T-state places are filled and the rest are zero; `data` is the input, padded with zeros;
 // `least` and `most` are the quick and the slow way through the row.
-#[derive(Drop)]
+#[derive(Clone, Copy)]
 pub struct OpCode {
     pub length: Bytes,
     pub ins: Instruction,

@@ -69,7 +69,7 @@ fn most_by(pace: Pace, sum: u16) -> u16
 }
 
 // The least and the most that a row takes.
-#[derive(Drop)]
+#[derive(Clone, Copy)]
 pub struct Span {
     pub least: RowTime,
     pub most: RowTime,
