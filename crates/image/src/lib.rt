@@ -1,4 +1,6 @@
 // Places of an image, whose first byte stands at the address `origin`.
+#![tactic(auto)]
+
 ghost use Rattle.std.specs.Prelude.{◌≡◌, ◌+◌, ◌-◌, min};
 ghost use Rattle.image.specs.Places.{wrong_size, outside};
 
