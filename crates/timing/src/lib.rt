@@ -1,5 +1,7 @@
 // The four edits of a record's T-state list, by value. An edit that lacks room, meets a count over six or names a place
 // past the filled ones says no and gives the record back as it came.
+#![tactic(auto)]
+
 mod places;
 
 ghost use Rattle.std.specs.Prelude.{◌≡◌, ◌≤◌};
