@@ -4,7 +4,7 @@ use mathlib.Core.Path.{◌≡◌, refl, sym, ap, subst}
 use mathlib.Core.Bool.{Bool, true, false}
 use mathlib.Core.Logic.{⊎_elim}
 use mathlib.Core.List.{List, [], ◌∷◌, ◌++◌}
-use Prim.Native.Nat.{ℕ, zero, suc, ◌+◌, ◌-◌, ◌≤◌}
+use Prim.Native.Nat.{ℕ, zero, suc, ◌-◌, ◌≤◌}
 use native.Mathlib.Omega.{arith}
 use lib.Dec.{eqb}
 use borrow.Author.Tests.{eqb-true}
@@ -59,17 +59,17 @@ module _ (r : Reading) (w : Foretells r) where
   grows : (s t : List ℕ) → 1 ≤ length s → r.needed s ≤ r.needed (s ++ t)
   grows [] t some = absurd (omega arith)
   grows (b0 ∷ []) [] some = omega arith
-  grows (b0 ∷ []) (b1 ∷ t) some = omega (arith, w.no_less b0 b1, w.two-say b0 b1 t)
-  grows (b0 ∷ b1 ∷ s) t some = omega (arith, w.two-say b0 b1 s, w.two-say b0 b1 (s ++ t))
+  grows (b0 ∷ []) (b1 ∷ t) some = omega (arith, w.no_less b0 b1, w.two_say b0 b1 t)
+  grows (b0 ∷ b1 ∷ s) t some = omega (arith, w.two_say b0 b1 s, w.two_say b0 b1 (s ++ t))
 
   -- and with these no more
   fills : (s : List ℕ) (k : ℕ) → 1 ≤ length s → 1 ≤ k → r.needed (s ++ filler k) ≤ r.needed s
   fills [] k some more = absurd (omega arith)
   fills (b0 ∷ []) zero some more = absurd (omega arith)
   fills (b0 ∷ []) (suc zero) some more = w.no_more b0
-  fills (b0 ∷ []) (suc (suc zero)) some more = omega (arith, w.no_more b0, w.two-say b0 0x44 (0 ∷ []))
-  fills (b0 ∷ []) (suc (suc (suc n))) some more = omega (arith, w.no_more b0, w.two-say b0 0x44 (0 ∷ 0 ∷ []))
-  fills (b0 ∷ b1 ∷ s) k some more = omega (arith, w.two-say b0 b1 s, w.two-say b0 b1 (s ++ filler k))
+  fills (b0 ∷ []) (suc (suc zero)) some more = omega (arith, w.no_more b0, w.two_say b0 0x44 (0 ∷ []))
+  fills (b0 ∷ []) (suc (suc (suc n))) some more = omega (arith, w.no_more b0, w.two_say b0 0x44 (0 ∷ 0 ∷ []))
+  fills (b0 ∷ b1 ∷ s) k some more = omega (arith, w.two_say b0 b1 s, w.two_say b0 b1 (s ++ filler k))
 
   -- what is needed less what is there is the fewest
   pub fewest : (s : List ℕ) → Below r s → Fewest r s (r.needed s - length s)

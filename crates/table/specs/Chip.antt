@@ -8,7 +8,7 @@ use Rattle.table.specs.Departures.{one_figure, needed}
 use Rattle.table.specs.Plain.{plain}
 use Rattle.table.specs.Cb.{cb}
 use Rattle.table.specs.Ed.{ed}
-use Rattle.table.specs.Prefix.{is_hl_lem, renamed, prefix_row, ld_indexed, bit_row}
+use Rattle.table.specs.Prefix.{is_hl_kind, renamed, prefix_row, ld_indexed, bit_row}
 use Rattle.table.specs.Decode.{is_prefix, page_row, Reading, Outcome, rust, decode_by, outcome_by}
 
 -- a prefix that changes nothing: a NOP with length 1, [4] and no operands
@@ -25,7 +25,7 @@ abbrev pub chip_prefixed : Index → Row → Row
 chip_prefixed i gap = idle
 chip_prefixed i (row ins x y z n t) =
     cond (is_at_hl x || is_at_hl y) (prefix_row i (row ins x y z n t))
-    (cond (is_hl_lem x || is_hl_lem y) (row ins (renamed i x) (renamed i y) z (n + 1) (always (4 ∷ one_figure t)))
+    (cond (is_hl_kind x || is_hl_kind y) (row ins (renamed i x) (renamed i y) z (n + 1) (always (4 ∷ one_figure t)))
     idle)
 
 -- the row behind a prefix; ED, DD and FD have no row of their own on the plain page, and EB is not looked into

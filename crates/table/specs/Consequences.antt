@@ -8,7 +8,7 @@ use Rattle.table.specs.declared.Mode.{Mode}
 use Rattle.table.specs.Row.{Kind, none, is, hl, h, l, at_hl, byte, word, at_word, at_port, rel, at_index, byte_behind, Cycles, always, conditional, repeating, Row, row, gap, is_at_hl}
 use Rattle.table.specs.Departures.{one_figure, after_first, swapped}
 use Rattle.table.specs.Ed.{ed}
-use Rattle.table.specs.Prefix.{is_hl_lem}
+use Rattle.table.specs.Prefix.{is_hl_kind}
 use Rattle.table.specs.Decode.{page_row, made, four, done, Reading, decode_by}
 use Rattle.table.specs.Chip.{chip_row_of, decode_in}
 
@@ -194,4 +194,4 @@ moved (row i x y z n t) = not (same (swapped (one_figure t)) (one_figure t))
 -- a row whose HL, H or L is renamed, with its cycles in another order than UM0080's, which has the prefix's [4] in front
 abbrev pub reordered : Row → Bool
 reordered gap = false
-reordered (row i x y z n t) = not (is_at_hl x || is_at_hl y) && ((is_hl_lem x || is_hl_lem y) && not (same (after_first (4 ∷ []) (one_figure t)) (4 ∷ one_figure t)))
+reordered (row i x y z n t) = not (is_at_hl x || is_at_hl y) && ((is_hl_kind x || is_hl_kind y) && not (same (after_first (4 ∷ []) (one_figure t)) (4 ∷ one_figure t)))

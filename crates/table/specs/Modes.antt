@@ -5,7 +5,7 @@ use Rattle.table.specs.Row.{Index, Kind, none, is, hl, h, l, at_hl, byte, word, 
 use Rattle.table.specs.Departures.{one_figure, late, unchanged, ed_behind, needed}
 use Rattle.table.specs.Plain.{plain}
 use Rattle.table.specs.Ed.{ed}
-use Rattle.table.specs.Prefix.{is_hl_lem, prefix_row}
+use Rattle.table.specs.Prefix.{is_hl_kind, prefix_row}
 use Rattle.table.specs.Decode.{is_prefix, row_of, needed_of}
 use Rattle.table.specs.Chip.{idle, defined, larger, chip_row_of, chip_needed_of, decode_in}
 use Rattle.table.specs.Consequences.{first, second, length_of, same, reordered}
@@ -35,7 +35,7 @@ abbrev pub alike : Row → Bool
 alike gap = true
 alike (row i x y z n t) =
     cond (is_at_hl x || is_at_hl y) true
-    (cond (is_hl_lem x || is_hl_lem y) (not (reordered (row i x y z n t)))
+    (cond (is_hl_kind x || is_hl_kind y) (not (reordered (row i x y z n t)))
     (is_none x && (is_none y && (is_none z && same (one_figure t) (4 ∷ [])))))
 
 -- behind DD ED or FD ED: no row that three bytes hold
@@ -60,7 +60,7 @@ agrees s = ltb 4 (length s) || agrees_upto4 s
 -- a row with an (HL), or else an HL, H or L, for a prefix to change
 abbrev pub is_changed : Row → Bool
 is_changed gap = false
-is_changed (row i x y z n t) = (is_at_hl x || is_at_hl y) || (is_hl_lem x || is_hl_lem y)
+is_changed (row i x y z n t) = (is_at_hl x || is_at_hl y) || (is_hl_kind x || is_hl_kind y)
 
 -- a code before which DD or FD changes nothing; ED, DD and FD have no row of their own on the plain page, and EB is not looked into
 abbrev pub idles : ℕ → Bool
