@@ -1,4 +1,6 @@
 // Tests of a map that need no decoder: its marks and its entries.
+#![tactic(auto)]
+
 ghost use Rattle.std.specs.Prelude.{◌≡◌, ◌<◌};
 ghost use Rattle.marking.specs.Links.{listed, places};
 ghost use Rattle.marking.specs.Rules.{entries as entries_of, entry};
