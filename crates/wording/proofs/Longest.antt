@@ -27,7 +27,7 @@ use Rattle.table.specs.Chip.{reading_of, decode_in}
 use Rattle.table.specs.Consequences.{values, AllBytes}
 use Rattle.table.proofs.Upto.{agree}
 use Rattle.table.proofs.Pages.{both_left, both_right, chosen}
-use Rattle.table.proofs.Rows.{Everywhere, mode_row_holds}
+use Rattle.table.proofs.Rows.{either_index, Everywhere, mode_row_holds}
 use Rattle.table.proofs.Done.{decides}
 use Rattle.wording.specs.Ascii.{ascii}
 use Rattle.wording.specs.Digits.{hex8, hex16, decimal, digit_at, signed}
@@ -115,13 +115,13 @@ all_fit =
       on_plain = tt;
       on_cb = tt;
       on_ed = tt;
-      behind_plain = λ i. elim i [ ix ↦ tt | iy ↦ tt ];
-      behind_ed = λ i. elim i [ ix ↦ tt | iy ↦ tt ];
-      load = λ i. elim i [ ix ↦ tt | iy ↦ tt ];
+      behind_plain = either_index _ tt tt;
+      behind_ed = either_index _ tt tt;
+      load = either_index _ tt tt;
       no_bit = λ i. tt;
-      on_bit = λ i. elim i [ ix ↦ tt | iy ↦ tt ];
+      on_bit = either_index _ tt tt;
       chip_none = (tt, tt);
-      chip_plain = λ i. elim i [ ix ↦ tt | iy ↦ tt ];
+      chip_plain = either_index _ tt tt;
       chip_ed = tt;
     }
 
