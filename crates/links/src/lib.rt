@@ -1,4 +1,6 @@
 // The next places of a row, each with the word for how it is come by.
+#![tactic(auto)]
+
 ghost use Rattle.std.specs.Prelude.{◌≡◌};
 ghost use Rattle.marking.specs.Links.{after as after_of, to as to_of, links as links_of, listed};
 
