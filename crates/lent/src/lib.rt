@@ -1,4 +1,6 @@
 // The four edits of the T-state list on a record that its owner lends: done there, or refused and nothing altered.
+#![tactic(auto)]
+
 ghost use Rattle.opcode.specs.Timing.{insert_of, extend_of, push_of, remove_of};
 ghost use Rattle.lending.specs.Lent.{Leaves};
 
