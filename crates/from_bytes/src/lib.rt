@@ -1,4 +1,6 @@
 // Numbers from bytes.
+#![tactic(auto)]
+
 ghost use Rattle.std.specs.Prelude.{◌≡◌, [], ◌∷◌};
 ghost use Rattle.table.specs.Signed.{signed_of, relative_of};
 ghost use Rattle.table.specs.Row.{word_of};
