@@ -10,6 +10,7 @@ use opcode::times::Span;
 
 // By the instruction's number, a digit each: 1 JR, 2 CALL, 3 RET, 4 DJNZ, 5 one that repeats itself, 0 any other. Digits and
 // no `match` of them: which one it is cannot be guessed.
+#[tactic(auto, unfolding(crate::specs::Paces::paces_of))]
 fn paces(part: u8) -> u64
     ensures { result ≡ paces_of part }
 {
@@ -21,6 +22,7 @@ fn paces(part: u8) -> u64
     }
 }
 
+#[tactic(auto, unfolding(crate::specs::Paces::pace_digit))]
 fn pace(n: u8) -> u8
     ensures { result ≡ pace_digit n }
 {
@@ -29,6 +31,7 @@ fn pace(n: u8) -> u8
 }
 
 // The quick way through, by the pace: a byte each.
+#[tactic(auto, unfolding(crate::specs::Paces::quick_of))]
 fn quick(pace: u8) -> u16
     requires { pace < 8 }
     ensures { result ≡ quick_of pace }
@@ -37,6 +40,7 @@ fn quick(pace: u8) -> u16
 }
 
 // The sum of the six T-states.
+#[tactic(auto, unfolding(opcode::specs::Record::sum))]
 fn total(row: u64) -> u16
     ensures { (result ≡ sum (states_from row)) × (result ≤ 90) }
 {
@@ -73,6 +77,7 @@ fn most(pace: u8, sum: u16) -> u16
 }
 
 // A kind whose first digit is 4 is a condition.
+#[tactic(auto, using(crate::proofs::Paced::pace_is))]
 pub fn row_span(row: u64) -> Span
     ensures { result ≡ span_from row }
 {
