@@ -1,4 +1,6 @@
 // Where each instruction, register and condition stands in the original's enums.
+#![tactic(auto)]
+
 ghost use Rattle.std.specs.Prelude.{◌≡◌};
 ghost use Rattle.wording.specs.Names.{instruction_of, reg8_of, reg16_of, condition_of};
 
