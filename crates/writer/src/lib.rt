@@ -1,5 +1,7 @@
 // Writing to lent bytes. A function that is given a place `at` writes behind what stands before it, as far as there is room,
 // and gives the place behind what it wrote.
+#![tactic(auto)]
+
 ghost use Rattle.std.specs.Prelude.{◌≡◌, cond, [], ◌∷◌, ◌++◌, leb, length, drop};
 ghost use Rattle.writer.specs.Wrote.{Wrote};
 
@@ -35,6 +37,6 @@ pub fn give(text: &[u8], out: &mut [u8]) -> bool
     if out.len() < text.len() {
         return false;
     }
-    bytes::copy(text, out);
+    out[..text.len()].copy_from_slice(text);
     true
 }
