@@ -1,4 +1,6 @@
 // Owners that lend a record of their own to two edits, one behind the other, and have it back.
+#![tactic(auto)]
+
 ghost use Rattle.std.specs.Prelude.{◌≡◌};
 ghost use Rattle.owner.specs.Owner.{twice};
 ghost use Rattle.opcode.specs.Timing.{insert_of, extend_of, push_of, remove_of};
@@ -9,7 +11,7 @@ use opcode::record::OpCode;
 use opcode::timing::Timing;
 
 // Whether each of two edits was done, and the record as it then is.
-#[derive(Drop)]
+#[derive(Clone, Copy)]
 pub struct Twice {
     pub first: bool,
     pub second: bool,
