@@ -1,4 +1,6 @@
 // The rows of two bytes, in two stages: LD r,n by a mask, and the rest: those with an operand byte, and the pages of ED and CB.
+#![tactic(auto)]
+
 ghost use Rattle.std.specs.Prelude.{◌≡◌, [], ◌∷◌};
 ghost use Rattle.table.specs.Decode.{page_row, operand_bytes};
 ghost use Rattle.stage.specs.Stage.{answer, of_length};
@@ -25,6 +27,7 @@ pub fn two_bytes(ins1: u8, ins2: u8, rec: OpCode) -> Stage
 }
 
 // A word of code is ED or CB and the byte behind it.
+#[tactic(auto, unfolding(crate::specs::Words::two_bytes))]
 fn disas_two_bytes(ins1: u8, ins2: u8, rec: OpCode) -> Stage
     ensures { result ≡ two_bytes ins1 ins2 rec }
 {
