@@ -73,10 +73,10 @@ module _ (o : OpCode) (pos : ℕ) (t : Timing) where
       by_test true = refl
       by_test false = refl
 
-pub with-addr :
+pub with_addr_lem :
     (i : Index) (d n : ℕ) (o : OpCode)
     → loaded n (lengthened (addr_record i d o).rec 2 (timing (4 ∷ 3 ∷ 5 ∷ []))) ≡ with_addr i d n o
-with-addr i d n o =
+with_addr_lem i d n o =
     let t = timing (4 ∷ 3 ∷ 5 ∷ []) in
     let x = changed o (o.length.0 + 2) o.ins (replace_addr i d o.op1) (replace_addr i d o.op2) in
     rw (second_kept x 1 t, byte_kept i d o.op2, second_before x 1 t (Place.Of (Operand.Imm8 n)))

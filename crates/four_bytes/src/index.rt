@@ -16,7 +16,7 @@ use stage::rows::{Stage, change, pass};
 use timing::{tstates_insert, tstates_remove};
 
 // Whether an operand was replaced, and the operand as it then is.
-#[derive(Drop)]
+#[derive(Clone, Copy)]
 pub struct Replaced {
     pub ok: bool,
     pub op: Place,
@@ -254,6 +254,7 @@ fn fix_load(rec: OpCode, n: u8) -> OpCode
 
 // What `disas_dd_fd_prefix` makes of the record of the bytes behind the prefix. Where nothing is to be replaced it is left as it
 // is and not taken, and so is one that no row makes, of more than four bytes.
+#[tactic(auto, unfolding(crate::specs::Replaced::replaced))]
 pub fn replace(rec: OpCode, prefix: u8, d: u8, n: u8) -> Stage
     ensures { result ≡ replaced (named prefix) d n rec }
 {
