@@ -1,0 +1,24 @@
+-- The stages in their order, and the page.
+use mathlib.Core.List.{[], ◌∷◌}
+use mathlib.Core.Path.{◌∙◌}
+use Rattle.table.specs.Row.{word_of}
+use Rattle.stage.proofs.Orders.{takes, passes}
+use Rattle.three_bytes.specs.Byte.{byte_row}
+use Rattle.three_bytes.specs.Mask.{mask_row}
+use Rattle.three_bytes.proofs.Page.{page}
+use Rattle.three_bytes.proofs.three_bytes.Goals as goal
+
+pub returns-then-masked : goal.returns-then-masked
+returns-then-masked c =
+    let b = c.args.ins1 in
+    let w = word_of (c.args.ins2 ∷ c.args.ins3 ∷ []) in
+    takes (mask_row b w) (byte_row b w) [] c.args.rec _ (rw c.word-nn.ensures at c.disas_three_bytes_mask-masked.ensures) c.if-masked.true
+    ∙ page c.args.rec c.args.ins2 c.args.ins3 b c.ranges.ins1.fits
+
+pub returns : goal.returns
+returns c =
+    let b = c.args.ins1 in
+    let w = word_of (c.args.ins2 ∷ c.args.ins3 ∷ []) in
+    passes (mask_row b w) (byte_row b w) [] c.args.rec _ _ (rw c.word-nn.ensures at c.disas_three_bytes_mask-masked.ensures) c.if-masked.false
+    (rw c.word-nn.ensures at c.disas_three_bytes.ensures)
+    ∙ page c.args.rec c.args.ins2 c.args.ins3 b c.ranges.ins1.fits
