@@ -1,1 +1,2 @@
 pub mod Sign
+pub mod Worked

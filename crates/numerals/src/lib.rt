@@ -1,4 +1,6 @@
 // Numbers as text, written to lent bytes.
+#![tactic(auto)]
+
 ghost use Rattle.std.specs.Prelude.{◌≡◌, ◌<◌, nat_abs};
 ghost use Rattle.wording.specs.Digits.{digit as digit_of, hex8, hex16, digit_at, decimal, signed};
 ghost use Rattle.writer.specs.Wrote.{Wrote};
