@@ -1,4 +1,6 @@
 // The forms of operands.
+#![tactic(auto)]
+
 ghost use Rattle.std.specs.Prelude.{◌++◌};
 ghost use Rattle.wording.specs.Ascii.{ascii};
 ghost use Rattle.wording.specs.Digits.{hex8, hex16, signed};
