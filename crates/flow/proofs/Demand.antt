@@ -20,7 +20,7 @@ use Rattle.marking.proofs.Walks.{walk_allowed, one_instruction}
 use Rattle.flow.specs.Flow.{flow_of, view_by, look_of}
 use Rattle.flow.specs.Consequences.{LeavesBy}
 use Rattle.flow.proofs.Sane.{sane}
-use Rattle.flow.proofs.Ends.{register-jumps}
+use Rattle.flow.proofs.Ends.{register_jumps}
 
 -- what is said of a window that is a row, and its flow
 abbrev flow_in : View → Flow
@@ -40,7 +40,7 @@ leaves mode m (standing a calls) w = tt
 leaves mode m (left a) (n, w) =
     let s = window_at m.image m.origin a in
     let (done, f) = seen (decode_in mode s).answer a (decode_in mode s).rec n Flow.RegisterJump w.marked.row in
-    register-jumps mode a s done f
+    register_jumps mode a s done f
 leaves mode m (returned a) w = tt
 leaves mode m (lost a) w = tt
 
@@ -63,11 +63,11 @@ module _ (mode : Mode) (m : Chart) (es : List ℕ) where
     map_walks = walk_allowed (look_of mode) (sane mode) m es (map_passes.0 passed)
 
     -- demand 3: and a register jump is a JP with HL, IX or IY, nothing else
-    pub demand-3 :
+    pub demand_3 :
         (j : ℕ) → j < entries es → (bs : List Bool)
         → let s = walk (look_of mode) m.image m.origin bs (standing (entry es j) []) in
         Allowed (look_of mode) m s × LeavesBy mode m s
-    demand-3 j h bs =
+    demand_3 j h bs =
         let s = walk (look_of mode) m.image m.origin bs (standing (entry es j) []) in
         let w = map_walks j h bs in
         (w, leaves mode m s w)

@@ -8,13 +8,13 @@ use Rattle.opcode.specs.declared.record.OpCode.{OpCode}
 use Rattle.table.specs.declared.Answer.{Answer}
 use Rattle.table.specs.declared.Decoded.{Decoded}
 use Rattle.table.specs.declared.Mode.{Mode}
-use Rattle.table.specs.Row.{ix, iy, Row, row, gap, read}
+use Rattle.table.specs.Row.{Row, row, gap, read}
 use Rattle.table.specs.Plain.{plain}
 use Rattle.table.specs.Cb.{cb}
 use Rattle.table.specs.Ed.{ed}
 use Rattle.table.specs.Decode.{operand_bytes, record_of, four}
 use Rattle.table.specs.Chip.{reading_of, decode_in}
-use Rattle.table.proofs.Rows.{Everywhere, mode_row_holds}
+use Rattle.table.proofs.Rows.{either_index, Everywhere, mode_row_holds}
 use Rattle.table.proofs.Done.{decides}
 use Rattle.marking.specs.declared.Flow.{Flow}
 use Rattle.flow.specs.Flow.{lead_of, flow_by, flow_of}
@@ -48,13 +48,13 @@ module _ (a : ℕ) (s : List ℕ) where
         on_plain = tt;
         on_cb = tt;
         on_ed = tt;
-        behind_plain = λ i. elim i [ ix ↦ tt | iy ↦ tt ];
-        behind_ed = λ i. elim i [ ix ↦ tt | iy ↦ tt ];
-        load = λ i. elim i [ ix ↦ tt | iy ↦ tt ];
+        behind_plain = either_index _ tt tt;
+        behind_ed = either_index _ tt tt;
+        load = either_index _ tt tt;
         no_bit = λ i. tt;
-        on_bit = λ i. elim i [ ix ↦ tt | iy ↦ tt ];
+        on_bit = either_index _ tt tt;
         chip_none = (tt, tt);
-        chip_plain = λ i. elim i [ ix ↦ tt | iy ↦ tt ];
+        chip_plain = either_index _ tt tt;
         chip_ed = tt;
       }
 
@@ -67,11 +67,11 @@ module _ (a : ℕ) (s : List ℕ) where
         pointer = both_right (eqb (tag_of the_type i) 27) (has_pointer (read x s)) v;
       }
 
-pub register-jumps :
+pub register_jumps :
     (mode : Mode) (a : ℕ) (s : List ℕ) → (decode_in mode s).answer ≡ Answer.Done → flow_of a (decode_in mode s).rec ≡ Flow.RegisterJump
     → ByRegister (decode_in mode s).rec
 unfolding decode_in
-register-jumps mode a s done e =
+register_jumps mode a s done e =
     let x = (reading_of mode).row s in
     let made : (decode_in mode s).rec ≡ record_of x (operand_bytes s) (four s) = ap (λ (u : Decoded). u.rec) (decides (reading_of mode) s done).made in
     subst ByRegister (sym made)
