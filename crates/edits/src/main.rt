@@ -1,9 +1,10 @@
 // Replays the original's edits: for each request on standard input its line on standard output, as README.md says.
-ghost use Rattle.std.specs.Prelude.{◌≡◌, length};
+#![tactic(auto)]
+
+ghost use Rattle.std.specs.Prelude.{◌≡◌, ◌≤◌, length};
 ghost use Rattle.edits.specs.Edits.{edits_of};
 
 use layout::layout;
-use libc::{STDIN_FILENO, STDOUT_FILENO};
 use numerals::put_hex8;
 use opcode::counts::{Bytes, MCycles, RowTime, TStates};
 use opcode::instruction::Instruction;
@@ -12,6 +13,8 @@ use opcode::record::OpCode;
 use opcode::registers::RegI;
 use opcode::timing::Timing;
 use owner::{Twice, extend_and_push, insert_and_remove};
+use std::io;
+use std::io::{Read, Write};
 use writer::{put, put_bytes};
 
 // A request: which owner, six T-states and a count for the record and for what is put in, and two numbers more.
@@ -68,12 +71,10 @@ fn edited(asked: u8, rec: OpCode, more: Timing, first: u8, second: u8) -> Twice
 // Each byte as two digits, with what stands before and behind each.
 fn put_pairs(line: &mut [u8], at: usize, bytes: &[u8], before: &[u8], behind: &[u8]) -> usize {
     let mut next = at;
-    let mut i = 0;
-    while i < bytes.len() {
+    for byte in bytes {
         next = put_bytes(line, next, before);
-        next = put_hex8(line, next, bytes[i]);
+        next = put_hex8(line, next, *byte);
         next = put_bytes(line, next, behind);
-        i += 1;
     }
     next
 }
@@ -87,7 +88,7 @@ fn put_answer(line: &mut [u8], at: usize, ok: bool) -> usize {
 }
 
 // The request, what the edits say, and the record as they left it.
-fn write_line(request: &[u8], left: Twice) {
+fn write_line<W: Write>(output: &mut W, request: &[u8], left: Twice) -> io::Result<()> {
     let mut line = [0u8; LINE_SIZE];
     let rec = left.rec;
     let bytes = layout(rec);
@@ -97,26 +98,52 @@ fn write_line(request: &[u8], left: Twice) {
     at = put_answer(&mut line, at, left.second);
     at = put_pairs(&mut line, at, &bytes, b" ", b"");
     put(&mut line, at, b'\n');
-    io::write_all(STDOUT_FILENO, &line);
+    output.write_all(&line)
 }
 
 // A request is answered in one line.
-fn answer(r: &[u8])
+fn answer<W: Write>(output: &mut W, r: &[u8]) -> io::Result<()>
     requires { length r.now ≡ 17 }
 {
     let held = timing(&r[1..8]);
     let more = timing(&r[8..15]);
     let left = edited(r[0], record(held), more, r[15], r[16]);
-    write_line(r, left);
+    write_line(output, r, left)
+}
+
+// As many bytes of requests as are read.
+const INPUT_MAX: usize = 65536;
+
+// Reads until the input ends, a read fails or `input` is full, and says how many bytes came.
+fn read_full<R: Read>(from: &mut R, input: &mut [u8]) -> usize
+    ensures { result ≤ length input.old }
+{
+    let mut done = 0;
+    while done < input.len() {
+        match from.read(&mut input[done..]) {
+            Ok(n) => {
+                if n == 0 {
+                    return done;
+                }
+                done += n;
+            }
+            Err(_) => {
+                return done;
+            }
+        }
+    }
+    done
 }
 
 // All requests of the input, of which the first 65,536 bytes are read; one that is cut off is not answered.
-fn main() {
-    let mut input = io::large_buffer();
-    let got = io::read_full(STDIN_FILENO, &mut input);
+fn main(rt: HostRuntime) -> io::Result<()> {
+    let mut input = [0u8; INPUT_MAX];
+    let mut output = rt.stdout();
+    let got = read_full(&mut rt.stdin(), &mut input);
     let mut at = 0;
     while REQUEST_SIZE <= got - at {
-        answer(&input[at..at + REQUEST_SIZE]);
+        answer(&mut output, &input[at..at + REQUEST_SIZE])?;
         at += REQUEST_SIZE;
     }
+    Ok(())
 }
