@@ -1,4 +1,6 @@
 // The text of a record: its bytes, mnemonic and operands, T-states, each where it is chosen.
+#![tactic(auto)]
+
 ghost use Rattle.std.specs.Prelude.{take, drop};
 ghost use Rattle.wording.specs.Text.{each, byte_text, next_time, times_text, operands_text, bytes_part, instruction_part, times_part, part, text_of};
 ghost use Rattle.writer.specs.Wrote.{Wrote};
