@@ -1,4 +1,6 @@
 // The text of a row, made from its bytes and written to the front of lent ones.
+#![tactic(auto)]
+
 ghost use Rattle.std.specs.Prelude.{◌≡◌};
 ghost use Rattle.table.specs.Chip.{decode_in};
 ghost use Rattle.wording.specs.Answers.{told_by, text_outcome};
