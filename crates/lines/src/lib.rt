@@ -1,4 +1,6 @@
 // The rows of an image, by the promises of the decoder and of the line.
+#![tactic(auto)]
+
 ghost use Rattle.std.specs.Prelude.{◌≡◌, ◌+◌, ◌<◌, ◌≤◌, leb, length, drop};
 ghost use Rattle.writer.specs.Wrote.{Wrote};
 ghost use Rattle.image.specs.Places.{window};
@@ -14,7 +16,7 @@ use window::decode_at;
 use writer::give;
 
 // What writing rows came to: the place behind their lines, and the bytes of the image that they pass.
-#[derive(Drop)]
+#[derive(Clone, Copy)]
 struct Put {
     next: usize,
     passed: usize,
