@@ -1,4 +1,6 @@
 // What a host calls: functions on numbers and byte slices, each slice a pointer and a length.
+#![tactic(auto)]
+
 pub mod maps;
 mod modes;
 pub mod record;

@@ -12,8 +12,7 @@ use rom::map_check;
 
 // Whether a map meets the marking rules in a mode: the marks of an image, whose first byte stands at `origin`, and the entries, byte
 // pairs, low first.
-#[unsafe(no_mangle)]
-pub extern "C" fn z80_map_check(
+pub fn z80_map_check(
     mode: u8,
     image: &[u8],
     origin: u16,

@@ -24,8 +24,7 @@ fn fields(f: Found) -> [u8; 24]
 }
 
 // Decodes `ins` in a mode, says how many bytes are missing where that is Short and, where 24 bytes are lent, writes the record, which is empty on a refusal, to the front of `out`.
-#[unsafe(no_mangle)]
-pub extern "C" fn z80_record(mode: u8, ins: &[u8], out: &mut [u8], missing: &mut u32) -> u8
+pub fn z80_record(mode: u8, ins: &[u8], out: &mut [u8], missing: &mut u32) -> u8
     ensures { outcome result missing.new out.new ≡ cond (bad_mode mode) (outcome 35 0 out.old) (record_outcome (decode_in (mode_of mode) ins.now) out.old) }
 {
     if is_bad_mode(mode) {
@@ -43,6 +42,6 @@ pub extern "C" fn z80_record(mode: u8, ins: &[u8], out: &mut [u8], missing: &mut
         return n;
     }
     let bytes = fields(f);
-    bytes::copy(&bytes, out);
+    out[0..layout::SIZE].copy_from_slice(&bytes);
     n
 }

@@ -9,8 +9,7 @@ use rom::row;
 
 // The row at an address of the image, whose first byte stands at `origin`, in a mode: its line to the front of `out`, the line's count
 // and the bytes passed.
-#[unsafe(no_mangle)]
-pub extern "C" fn z80_row(
+pub fn z80_row(
     mode: u8,
     image: &[u8],
     origin: u16,

@@ -10,8 +10,7 @@ use text::text;
 
 // The chosen parts of the text of `ins`, decoded in a mode, to the front of `out`, their count, and how many bytes are missing where the decode is
 // Short.
-#[unsafe(no_mangle)]
-pub extern "C" fn z80_text(
+pub fn z80_text(
     mode: u8,
     choice: u8,
     ins: &[u8],
