@@ -5,7 +5,7 @@ use std::path::{self, Path, PathBuf};
 
 /// What to do where there is no archive.
 const HELP: &str =
-    "`rt staticlib exports`, at the top of the repository, writes target/staticlib/libexports.a; \
+    "`host/make exports`, at the top of the repository, writes target/staticlib/libexports.a; \
     set EXPORTS_DIR to that folder";
 
 fn main() {

@@ -32,9 +32,9 @@ release() {
     exec 9>&-
 }
 
-# The kit's folder for this machine.
+# The kit's folder.
 kit() {
-    cd "$(dirname "$(rt doc </dev/null)")/../on/$machine" && pwd -P
+    cd "$(dirname "$(rt doc </dev/null)")" && pwd -P
 }
 
 # words_for PROGRAM: in `words`, those that run a program for x86-64: on another machine the kit's emulator comes before it.

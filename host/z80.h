@@ -1,4 +1,4 @@
-// The proved functions of libexports.a, for C and C++. `rt staticlib exports` writes the archive to target/staticlib, for x86-64:
+// The proved functions of libexports.a, for C and C++. `host/make exports` writes the archive to target/staticlib, for x86-64:
 //     cc -Ihost yours.c target/staticlib/libexports.a
 // A pointer and the length behind it are one part of memory that is lent. No part that is written to may overlap another; one of
 // length 0 may be a null pointer. Nothing is kept beyond a call.
