@@ -7,8 +7,7 @@ use Rattle.opcode.specs.declared.timing.Timing.{Timing}
 use Rattle.opcode.specs.Timing.{insert_of, remove_of}
 use Rattle.table.specs.Row.{Index}
 use Rattle.table.specs.Steps.{has_addr, has_hl, is_imm8, replace_addr, replace_hl, changed, with_addr, with_hl}
-use Rattle.stage.specs.declared.rows.Stage.{Stage}
-use Rattle.stage.specs.Stage.{passed, taken}
+use Rattle.stage.specs.Stage.{Stage, passed, taken}
 use Rattle.four_bytes.specs.declared.index.Replaced.{Replaced}
 
 -- an operand, and whether it is replaced: (HL), and HL, H or L

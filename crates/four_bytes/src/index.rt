@@ -10,7 +10,7 @@ use opcode::operand::{Operand, Place};
 use opcode::record::OpCode;
 use opcode::registers::{Reg8, Reg16};
 use opcode::timing::Timing;
-use stage::cycles::{t1, t3};
+use stage::cycles::cycles;
 use stage::operands::{index_addr, is_hl, is_hl_addr};
 use stage::rows::{Stage, change, pass};
 use timing::{tstates_insert, tstates_remove};
@@ -265,7 +265,7 @@ pub fn replace(rec: OpCode, prefix: u8, d: u8, n: u8) -> Stage
     let indexed = replace_hl_addr(rec, prefix, d);
     if indexed.ok {
         let addressed = indexed.rec;
-        let longer = lengthen(addressed, 2, t3(4, 3, 5));
+        let longer = lengthen(addressed, 2, cycles(&[4, 3, 5]));
         return Stage {
             ok: true,
             rec: fix_load(longer, n),
@@ -276,7 +276,7 @@ pub fn replace(rec: OpCode, prefix: u8, d: u8, n: u8) -> Stage
         let named = renamed.rec;
         return Stage {
             ok: true,
-            rec: lengthen(named, 1, t1(4)),
+            rec: lengthen(named, 1, cycles(&[4])),
         };
     }
     pass(rec)

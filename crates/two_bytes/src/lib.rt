@@ -19,10 +19,7 @@ mod mask;
 pub fn two_bytes(ins1: u8, ins2: u8, rec: OpCode) -> Stage
     ensures { result ≡ answer (of_length 2 (page_row ins1 ins2)) (operand_bytes (ins1 ∷ ins2 ∷ [])) rec }
 {
-    let masked = mask::disas_two_bytes_mask(ins1, ins2, rec);
-    if masked.ok {
-        return masked;
-    }
+    let rec = mask::disas_two_bytes_mask(ins1, ins2, rec)?;
     disas_two_bytes(ins1, ins2, rec)
 }
 
@@ -31,10 +28,7 @@ pub fn two_bytes(ins1: u8, ins2: u8, rec: OpCode) -> Stage
 fn disas_two_bytes(ins1: u8, ins2: u8, rec: OpCode) -> Stage
     ensures { result ≡ two_bytes ins1 ins2 rec }
 {
-    let immediate = immediate::disas_immediate(ins1, ins2, rec);
-    if immediate.ok {
-        return immediate;
-    }
+    let rec = immediate::disas_immediate(ins1, ins2, rec)?;
     let insw = word(ins2, ins1);
     if ins1 == 0xED {
         return ed::disas_ed(insw, ins2, rec);

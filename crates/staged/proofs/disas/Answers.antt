@@ -11,8 +11,7 @@ use Rattle.table.specs.Consequences.{AllBytes}
 use Rattle.table.specs.Decode.{four, needed_of, done, decode_of}
 use Rattle.table.specs.declared.Mode.{Mode}
 use Rattle.table.proofs.Sizes.{needed_at_most}
-use Rattle.stage.specs.declared.rows.Stage.{Stage}
-use Rattle.stage.specs.Stage.{taken}
+use Rattle.stage.specs.Stage.{Stage, taken}
 use Rattle.staged.specs.Chain.{decoder_of}
 use Rattle.staged.proofs.Agrees.{fresh, staged, timed, decoder_agrees, done_staged, few_staged, short_staged}
 use Rattle.staged.proofs.disas.Goals as goal

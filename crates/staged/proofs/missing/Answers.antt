@@ -5,10 +5,10 @@ use native.Mathlib.Omega.{arith}
 use Rattle.table.specs.Decode.{needed_of}
 use Rattle.table.specs.declared.Mode.{Mode}
 use Rattle.table.proofs.Sizes.{needed_at_most}
-use Rattle.stage.specs.declared.rows.Stage.{Stage}
 use Rattle.staged.proofs.Needed.{two_told, two_left, three_told, three_left}
 use Rattle.staged.proofs.missing.Goals as goal
 use Rattle.staged.proofs.missing.Goals.{Then-two, Else-two, Then-three, Else-three}
+use Rattle.stage.specs.Stage.{Stage}
 
 last : (n : ℕ) → 1 < n → n ≤ 4 → (n ≡ 2 → ⊥) → (n ≡ 3 → ⊥) → n ≡ 4
 last zero more most two three = absurd (omega arith)

@@ -2,8 +2,7 @@
 use mathlib.Core.List.{[], ◌∷◌}
 use mathlib.Core.Path.{◌≡◌, ap, sym, ◌∙◌}
 use borrow.Author.Tests.{le-ltb}
-use Rattle.stage.specs.declared.rows.Stage.{Stage}
-use Rattle.stage.specs.Stage.{taken}
+use Rattle.stage.specs.Stage.{Stage, taken}
 use Rattle.table.specs.Steps.{timing, named}
 use Rattle.four_bytes.specs.Replaced.{addr_record, lengthened, loaded, replaced}
 use Rattle.four_bytes.proofs.Prefixed.{with_addr_lem}
