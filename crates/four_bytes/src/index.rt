@@ -204,8 +204,8 @@ fn lengthen(rec: OpCode, bytes: u8, t: Timing) -> OpCode
     let op1 = rec.op1;
     let op2 = rec.op2;
     let longer = change(rec, length.0 + bytes, ins, op1, op2);
-    let timed = tstates_insert(longer, 1, t);
-    timed.rec
+    let (Ok(timed) | Err(timed)) = tstates_insert(longer, 1, t);
+    timed
 }
 
 fn is_imm8(p: Place) -> bool
@@ -248,8 +248,8 @@ fn fix_load(rec: OpCode, n: u8) -> OpCode
     let ins = rec.ins;
     let op1 = rec.op1;
     let taken = change(rec, length.0, ins, op1, Place::Of(Operand::Imm8(n)));
-    let shorter = tstates_remove(taken, 5);
-    shorter.rec
+    let (Ok(shorter) | Err(shorter)) = tstates_remove(taken, 5);
+    shorter
 }
 
 // What `disas_dd_fd_prefix` makes of the record of the bytes behind the prefix. Where nothing is to be replaced it is left as it
