@@ -11,8 +11,8 @@ use Rattle.opcode.specs.declared.registers.Reg8.{Reg8}
 use Rattle.opcode.specs.declared.registers.Reg16.{Reg16}
 use Rattle.opcode.specs.declared.record.OpCode.{OpCode}
 use Rattle.opcode.specs.declared.timing.Timing.{Timing}
-use Rattle.opcode.specs.declared.timing.Edited.{Edited}
-use Rattle.opcode.specs.Timing.{listed, no, yes, inserted, may_insert, insert_of}
+use Rattle.std.specs.Prelude.{Result}
+use Rattle.opcode.specs.Timing.{listed, no, yes, rec_of, inserted, may_insert, insert_of}
 use Rattle.table.specs.Row.{Index, ix, iy}
 use Rattle.table.specs.Steps.{has_addr, has_hl, half, is_half, is_imm8, replace_addr, replace_hl, changed, timing, with_addr}
 use Rattle.four_bytes.specs.Replaced.{addr_replaced, hl_replaced, operands_replaced, addressed, addr_record, hl_record, lengthened, loaded}
@@ -53,25 +53,25 @@ byte_kept i d (Place.Of Operand.IgnoreIO) = refl
 
 -- an insert leaves the operands, whatever its test says
 module _ (o : OpCode) (pos : ℕ) (t : Timing) where
-  abbrev tested : Bool → OpCode → Edited
+  abbrev tested : Bool → OpCode → Result OpCode OpCode
   tested b r = cond b (yes r (inserted r.tstates pos (listed t)) (r.mcycles.0 + t.mcycles.0)) (no r)
 
-  second_kept : (insert_of o pos t).rec.op2 ≡ o.op2
+  second_kept : (rec_of (insert_of o pos t)).op2 ≡ o.op2
   unfolding insert_of
   second_kept = by_test (may_insert o.mcycles.0 pos t.mcycles.0)
     where
-      by_test : (b : Bool) → (tested b o).rec.op2 ≡ o.op2
+      by_test : (b : Bool) → (rec_of (tested b o)).op2 ≡ o.op2
       by_test true = refl
       by_test false = refl
 
   abbrev second : Place → OpCode → OpCode
   second y r = changed r r.length.0 r.ins r.op1 y
 
-  second_before : (y : Place) → second y (insert_of o pos t).rec ≡ (insert_of (second y o) pos t).rec
+  second_before : (y : Place) → second y (rec_of (insert_of o pos t)) ≡ rec_of (insert_of (second y o) pos t)
   unfolding insert_of
   second_before y = by_test (may_insert o.mcycles.0 pos t.mcycles.0)
     where
-      by_test : (b : Bool) → second y (tested b o).rec ≡ (tested b (second y o)).rec
+      by_test : (b : Bool) → second y (rec_of (tested b o)) ≡ rec_of (tested b (second y o))
       by_test true = refl
       by_test false = refl
 

@@ -4,7 +4,7 @@ use Rattle.opcode.specs.declared.operand.Operand.{Operand}
 use Rattle.opcode.specs.declared.operand.Place.{Place}
 use Rattle.opcode.specs.declared.record.OpCode.{OpCode}
 use Rattle.opcode.specs.declared.timing.Timing.{Timing}
-use Rattle.opcode.specs.Timing.{insert_of, remove_of}
+use Rattle.opcode.specs.Timing.{insert_of, remove_of, rec_of}
 use Rattle.table.specs.Row.{Index}
 use Rattle.table.specs.Steps.{has_addr, has_hl, is_imm8, replace_addr, replace_hl, changed, with_addr, with_hl}
 use Rattle.stage.specs.Stage.{Stage, passed, taken}
@@ -38,13 +38,13 @@ hl_record i o = cond (has_hl o.op1 || has_hl o.op2) (Some (renamed i o)) None
 
 -- n bytes longer, with T-states put in after the first cycle
 abbrev pub lengthened : OpCode → ℕ → Timing → OpCode
-lengthened o n t = (insert_of (changed o (o.length.0 + n) o.ins o.op1 o.op2) 1 t).rec
+lengthened o n t = rec_of (insert_of (changed o (o.length.0 + n) o.ins o.op1 o.op2) 1 t)
 
 -- where the second operand is a byte it is n, and the sixth cycle goes
 abbrev pub loaded : ℕ → OpCode → OpCode
 loaded n o =
     cond (is_imm8 o.op2)
-    (remove_of (changed o o.length.0 o.ins o.op1 (Place.Of (Operand.Imm8 n))) 5).rec
+    (rec_of (remove_of (changed o o.length.0 o.ins o.op1 (Place.Of (Operand.Imm8 n))) 5))
     o
 
 -- its (HL) replaced, or else its HL, H and L; where there is none, or the record is longer than any row, it is left as it is

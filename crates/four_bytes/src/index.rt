@@ -86,7 +86,8 @@ fn lengthen(rec: OpCode, bytes: u8, t: Timing) -> OpCode
         length: Bytes(rec.length.0 + bytes),
         ..rec
     };
-    tstates_insert(longer, 1, t).rec
+    let (Ok(timed) | Err(timed)) = tstates_insert(longer, 1, t);
+    timed
 }
 
 // LD (IX+d),n takes n from the fourth byte and loses its sixth cycle.
@@ -100,7 +101,8 @@ fn fix_load(rec: OpCode, n: u8) -> OpCode
         op2: Place::Of(Operand::Imm8(n)),
         ..rec
     };
-    tstates_remove(taken, 5).rec
+    let (Ok(shorter) | Err(shorter)) = tstates_remove(taken, 5);
+    shorter
 }
 
 // What `disas_dd_fd_prefix` makes of the record of the bytes behind the prefix. Where nothing is to be replaced it is left as it

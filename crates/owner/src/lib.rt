@@ -19,29 +19,19 @@ pub struct Twice {
 }
 
 // The record with `more` behind its filled places, and one machine cycle more.
-pub fn extend_and_push(rec: OpCode, more: Timing, t: TStates) -> Twice
+pub fn extend_and_push(mut rec: OpCode, more: Timing, t: TStates) -> Twice
     ensures { result ≡ twice (extend_of rec more) (λ x. push_of x t) }
 {
-    let mut own = rec;
-    let first = tstates_extend(&mut own, more);
-    let second = tstates_push(&mut own, t);
-    Twice {
-        first,
-        second,
-        rec: own,
-    }
+    let first = tstates_extend(&mut rec, more);
+    let second = tstates_push(&mut rec, t);
+    Twice { first, second, rec }
 }
 
 // The record with `more` before place `pos`, then without place `out`.
-pub fn insert_and_remove(rec: OpCode, pos: usize, more: Timing, out: usize) -> Twice
+pub fn insert_and_remove(mut rec: OpCode, pos: usize, more: Timing, out: usize) -> Twice
     ensures { result ≡ twice (insert_of rec pos more) (λ x. remove_of x out) }
 {
-    let mut own = rec;
-    let first = tstates_insert(&mut own, pos, more);
-    let second = tstates_remove(&mut own, out);
-    Twice {
-        first,
-        second,
-        rec: own,
-    }
+    let first = tstates_insert(&mut rec, pos, more);
+    let second = tstates_remove(&mut rec, out);
+    Twice { first, second, rec }
 }

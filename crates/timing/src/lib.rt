@@ -24,7 +24,7 @@ pub fn tstates_insert(rec: OpCode, pos: usize, more: Timing) -> Edited
         let places = with_inserted(old, pos, s, n);
         return done(rec, places, m + n);
     }
-    Edited { ok: false, rec }
+    Err(rec)
 }
 
 // The record with `more` behind its filled places.
@@ -39,7 +39,7 @@ pub fn tstates_extend(rec: OpCode, more: Timing) -> Edited
         let places = with_written(old, m, s, 0, n);
         return done(rec, places, m + n);
     }
-    Edited { ok: false, rec }
+    Err(rec)
 }
 
 // The record with one machine cycle more: of the six places only the first counts.
@@ -64,16 +64,17 @@ pub fn tstates_remove(rec: OpCode, pos: usize) -> Edited
         let places = with_written(moved, m - 1, [TStates(0); 6], 0, 1);
         return done(rec, places, m - 1);
     }
-    Edited { ok: false, rec }
+    Err(rec)
 }
 
 // Done: the record with these places, of which the first m are filled.
-fn done(mut rec: OpCode, places: [TStates; 6], m: usize) -> Edited
+fn done(rec: OpCode, places: [TStates; 6], m: usize) -> Edited
     requires { m ≤ 6 }
     ensures { result ≡ yes rec places m }
 {
-    let count = m as u8;
-    rec.tstates = places;
-    rec.mcycles.0 = count;
-    Edited { ok: true, rec }
+    Ok(OpCode {
+        tstates: places,
+        mcycles: MCycles(m as u8),
+        ..rec
+    })
 }
