@@ -7,6 +7,7 @@ ghost use Rattle.table.specs.Signed.{signed_of, relative_of};
 ghost use Rattle.table.specs.Row.{word_of};
 
 // A displacement: the byte in two's complement, -128 to 127.
+#[tactic(auto, unfolding(table::specs::Signed::signed_of))]
 pub fn signed(b: u8) -> i8
     ensures { result ≡ signed_of b }
 {
@@ -18,6 +19,7 @@ pub fn signed(b: u8) -> i8
 }
 
 // A relative operand: the signed byte plus 2, -126 to 129.
+#[tactic(auto, unfolding(table::specs::Signed::relative_of))]
 pub fn relative(b: u8) -> i16
     ensures { result ≡ relative_of b }
 {
