@@ -1,14 +1,15 @@
 -- The stage that would take the bytes says how many are needed.
 use Prim.Native.Nat.{ℕ, zero, suc, ◌<◌, ◌≤◌}
-use mathlib.Core.Path.{◌≡◌, refl, sym, ap, ◌∙◌}
+use mathlib.Core.Path.{◌≡◌, refl, sym}
 use native.Mathlib.Omega.{arith}
+use lib.ListN.{get_or}
+use Rattle.std.proofs.lemmas.Grind.{common_steps}
 use Rattle.table.specs.Decode.{needed_of}
 use Rattle.table.specs.declared.Mode.{Mode}
 use Rattle.table.proofs.Sizes.{needed_at_most}
 use Rattle.staged.proofs.Needed.{two_told, two_left, three_told, three_left}
 use Rattle.staged.proofs.missing.Goals as goal
-use Rattle.staged.proofs.missing.Goals.{Then-two, Else-two, Then-three, Else-three}
-use Rattle.stage.specs.Stage.{Stage}
+use Rattle.staged.proofs.missing.Goals.{Then-is_break, Then-is_break-2}
 
 last : (n : ℕ) → 1 < n → n ≤ 4 → (n ≡ 2 → ⊥) → (n ≡ 3 → ⊥) → n ≡ 4
 last zero more most two three = absurd (omega arith)
@@ -17,33 +18,39 @@ last (suc (suc zero)) more most two three = absurd (two refl)
 last (suc (suc (suc zero))) more most two three = absurd (three refl)
 last (suc (suc (suc (suc n)))) more most two three = omega arith
 
-two-needed : (c : Then-two) → needed_of c.args.ins.now ≡ 2
+two-needed : (c : Then-is_break) → needed_of c.args.ins.now ≡ 2
 two-needed c =
-    two_told c.args.ins.now _ c.args.rec c.requires.ins_nonzero
-    (sym (ap (λ (q : Stage). q.ok) (rw c.byte_at.ensures at c.two_bytes-two.ensures)) ∙ c.if-two.true)
+    let ins2 : c.unwrap_or-ins2.result ≡ get_or c.args.ins.now 1 0x44 = grind (arith, common_steps) in
+    let told = rw ins2 at c.two_bytes.ensures in
+    two_told c.args.ins.now _ c.args.rec c.requires.ins_nonzero (sym (rw told at c.if-is_break.ensures))
+
+three-needed : (c : Then-is_break-2) → needed_of c.args.ins.now ≡ 3
+three-needed c = three_told c.args.ins.now _ c.args.rec c.requires.ins_nonzero (sym (rw c.three_bytes.ensures at c.if-is_break-2.ensures))
+
+pub overflow_cast-n : goal.overflow_cast-n
+overflow_cast-n c = omega (arith, needed_at_most Mode.Rust c.args.ins.now)
 
 pub overflow_sub-result : goal.overflow_sub-result
 overflow_sub-result c = omega (arith, two-needed c)
 
-pub returns-then-two : goal.returns-then-two
-returns-then-two c = omega (arith, two-needed c)
+pub returns-then-is_break : goal.returns-then-is_break
+returns-then-is_break c = omega (arith, two-needed c)
 
-pub returns-then-three : goal.returns-then-three
-returns-then-three c =
-    omega
-    (arith, three_told c.args.ins.now _ c.args.rec c.requires.ins_nonzero (sym (ap (λ (q : Stage). q.ok) c.three_bytes-three.ensures) ∙ c.if-three.true))
+pub overflow_sub-result-then-is_break-2 : goal.overflow_sub-result-then-is_break-2
+overflow_sub-result-then-is_break-2 c = omega (arith, three-needed c)
+
+pub returns-then-is_break-2 : goal.returns-then-is_break-2
+returns-then-is_break-2 c = omega (arith, three-needed c)
+
+pub overflow_sub-result-2 : goal.overflow_sub-result-2
+overflow_sub-result-2 c = omega (arith, needed_at_most Mode.Rust c.args.ins.now)
 
 pub returns : goal.returns
 returns c =
-    let not_two =
-    two_left c.args.ins.now _ c.args.rec c.requires.ins_nonzero
-    (sym (ap (λ (q : Stage). q.ok) (rw c.byte_at.ensures at c.two_bytes-two.ensures)) ∙ c.if-two.false)
-    in
-    let not_three =
-    three_left c.args.ins.now _ c.args.rec c.requires.ins_nonzero
-    (sym (ap (λ (q : Stage). q.ok) c.three_bytes-three.ensures) ∙ c.if-three.false)
-    in
-    let four : needed_of c.args.ins.now ≡ 4 =
-    last (needed_of c.args.ins.now) (omega arith) (needed_at_most Mode.Rust c.args.ins.now) not_two not_three
-    in
+    let s = c.args.ins.now in
+    let ins2 : c.unwrap_or-ins2.result ≡ get_or s 1 0x44 = grind (arith, common_steps) in
+    let told = rw ins2 at c.two_bytes.ensures in
+    let not_two = two_left s _ c.args.rec c.requires.ins_nonzero (sym (rw told at c.if-is_break.ensures)) in
+    let not_three = three_left s _ c.args.rec c.requires.ins_nonzero (sym (rw c.three_bytes.ensures at c.if-is_break-2.ensures)) in
+    let four : needed_of s ≡ 4 = last (needed_of s) (omega arith) (needed_at_most Mode.Rust s) not_two not_three in
     omega arith
