@@ -30,11 +30,9 @@ fn disas_two_bytes(ins1: u8, ins2: u8, rec: OpCode) -> Stage
 {
     let rec = immediate::disas_immediate(ins1, ins2, rec)?;
     let insw = word(ins2, ins1);
-    if ins1 == 0xED {
-        return ed::disas_ed(insw, ins2, rec);
+    match ins1 {
+        0xED => ed::disas_ed(insw, ins2, rec),
+        0xCB => cb::disas_cb(insw, ins2, rec),
+        _ => pass(rec),
     }
-    if ins1 == 0xCB {
-        return cb::disas_cb(insw, ins2, rec);
-    }
-    pass(rec)
 }
