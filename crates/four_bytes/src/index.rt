@@ -57,6 +57,7 @@ fn with_operands(rec: OpCode, op1: Option<Place>, op2: Option<Place>) -> Option<
     }
 }
 
+#[tactic(auto, using(crate::proofs::Prefixed::addr_records))]
 fn replace_hl_addr(rec: OpCode, prefix: u8, d: u8) -> Option<OpCode>
     ensures { result ≡ addr_record (named prefix) d rec }
 {
@@ -67,6 +68,7 @@ fn replace_hl_addr(rec: OpCode, prefix: u8, d: u8) -> Option<OpCode>
     )
 }
 
+#[tactic(auto, using(crate::proofs::Prefixed::hl_records))]
 fn replace_hl(rec: OpCode, prefix: u8) -> Option<OpCode>
     ensures { result ≡ hl_record (named prefix) rec }
 {
