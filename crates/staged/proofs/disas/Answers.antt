@@ -10,7 +10,7 @@ use Rattle.table.specs.Consequences.{AllBytes}
 use Rattle.table.specs.Decode.{four, needed_of, done, decode_of}
 use Rattle.stage.specs.Stage.{passed, taken}
 use Rattle.staged.specs.Chain.{decoder_of}
-use Rattle.staged.proofs.Agrees.{fresh, staged, timed, decoder_agrees, done_staged, few_staged, short_staged}
+use Rattle.staged.proofs.Agrees.{fresh, timed, decoder_agrees, done_staged, few_staged, short_staged}
 use Rattle.staged.proofs.disas.Goals as goal
 
 -- o being the record that the stages took the bytes s to, or passed on

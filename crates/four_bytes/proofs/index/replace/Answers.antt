@@ -1,10 +1,10 @@
 -- Operands replaced, T-states put in and LD (IX+d),n mended are what the definition has at once.
 use mathlib.Core.Bool.{◌||◌}
 use mathlib.Core.List.{[], ◌∷◌}
-use mathlib.Core.Path.{◌≡◌, ap, sym, ◌∙◌}
+use mathlib.Core.Path.{◌≡◌, ap, ◌∙◌}
 use native.Mathlib.Omega.{arith}
 use borrow.Author.Tests.{le-ltb}
-use Rattle.stage.specs.Stage.{Stage, taken}
+use Rattle.stage.specs.Stage.{taken}
 use Rattle.table.specs.Steps.{has_addr, has_hl, timing, named}
 use Rattle.four_bytes.specs.Replaced.{addressed, renamed, lengthened, loaded, replaced}
 use Rattle.four_bytes.proofs.Prefixed.{told, untold, with_addr_lem}
