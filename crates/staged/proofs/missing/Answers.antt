@@ -1,6 +1,5 @@
 -- The stage that would take the bytes says how many are needed.
-use Prim.Native.Nat.{ℕ, zero, suc, ◌<◌, ◌≤◌}
-use mathlib.Core.Path.{◌≡◌, refl, sym}
+use mathlib.Core.Path.{◌≡◌, sym}
 use native.Mathlib.Omega.{arith}
 use lib.ListN.{get_or}
 use Rattle.std.proofs.lemmas.Grind.{common_steps}
@@ -10,13 +9,6 @@ use Rattle.table.proofs.Sizes.{needed_at_most}
 use Rattle.staged.proofs.Needed.{two_told, two_left, three_told, three_left}
 use Rattle.staged.proofs.missing.Goals as goal
 use Rattle.staged.proofs.missing.Goals.{Then-is_break, Then-is_break-2}
-
-last : (n : ℕ) → 1 < n → n ≤ 4 → (n ≡ 2 → ⊥) → (n ≡ 3 → ⊥) → n ≡ 4
-last zero more most two three = absurd (omega arith)
-last (suc zero) more most two three = absurd (omega arith)
-last (suc (suc zero)) more most two three = absurd (two refl)
-last (suc (suc (suc zero))) more most two three = absurd (three refl)
-last (suc (suc (suc (suc n)))) more most two three = omega arith
 
 two-needed : (c : Then-is_break) → needed_of c.args.ins.now ≡ 2
 two-needed c =
@@ -52,5 +44,4 @@ returns c =
     let told = rw ins2 at c.two_bytes.ensures in
     let not_two = two_left s _ c.args.rec c.requires.ins_nonzero (sym (rw told at c.if-is_break.ensures)) in
     let not_three = three_left s _ c.args.rec c.requires.ins_nonzero (sym (rw c.three_bytes.ensures at c.if-is_break-2.ensures)) in
-    let four : needed_of s ≡ 4 = last (needed_of s) (omega arith) (needed_at_most Mode.Rust s) not_two not_three in
-    omega arith
+    omega (arith, needed_at_most Mode.Rust s, not_two, not_three)
