@@ -5,13 +5,11 @@ use Prim.Native.Nat.{ℕ, zero, suc, ◌+◌, ◌-◌, ◌<◌, ◌≤◌}
 use native.Mathlib.Omega.{arith}
 use lib.ListN.{length, take, drop, get_or, length-append, length-drop, get_or-append}
 use lib.Seq.{get_or-drop, length-take-le}
-use borrow.Author.Tests.{le-leb, leb-true, ltb-true}
-use lib.Dec.{leb, ltb}
 use Rattle.std.specs.List.{copy_within}
 use Rattle.std.proofs.lemmas.Grind.{common_steps}
 use Rattle.std.proofs.lemmas.List.{get_or-append_right}
 use Rattle.std.proofs.Math.Seq.{take-append-add}
-use mathlib.Core.Bool.{Bool, true, false, ◌&&◌, false≢true}
+use mathlib.Core.Bool.{true}
 use Rattle.opcode.specs.declared.counts.TStates.{TStates}
 use Rattle.opcode.specs.Record.{unfilled, six}
 use Rattle.opcode.specs.Timing.{written, inserted, removed, may_insert, may_extend, may_remove}
@@ -91,29 +89,18 @@ module _ (t : List TStates) (pos : ℕ) (those : length t ≡ 6) (fits : pos < 6
 
   pub removed_len : length (removed t pos) ≡ 6
   unfolding removed written
-  removed_len =
-      length-append (take pos t) (drop (pos + 1) t ++ drop (pos + length (drop (pos + 1) t)) t)
-      ∙ omega (arith, length-take-le pos t (omega (arith, those, fits)), length-append (drop (pos + 1) t) (drop (pos + length (drop (pos + 1) t)) t), length-drop (pos + length (drop (pos + 1) t)) t, rest_len, those, fits)
+  removed_len = grind (arith, common_steps, those, fits)
 
 -- what the tests say
-and_both : (a b : Bool) → (a && b) ≡ true → (a ≡ true) × (b ≡ true)
-and_both true b e = (refl, e)
-and_both false b e = absurd (false≢true e)
-
 pub may_insert_lem : (m pos n : ℕ) → may_insert m pos n ≡ true → (m ≤ 6) × (pos ≤ m) × (m + n ≤ 6)
 unfolding may_insert
-may_insert_lem m pos n e =
-    let f = and_both (leb m 6) (leb pos m && leb n (6 - m)) e in
-    let g = and_both (leb pos m) (leb n (6 - m)) f.1 in
-    let most = leb-true m 6 f.0 in
-    let fits = leb-true n (6 - m) g.1 in
-    (most, leb-true pos m g.0, omega arith)
+may_insert_lem m pos n e = grind (arith, common_steps)
 
 pub may_remove_lem : (m pos : ℕ) → may_remove m pos ≡ true → (m ≤ 6) × (pos < m)
 unfolding may_remove
-may_remove_lem m pos e = let f = and_both (leb m 6) (ltb pos m) e in (leb-true m 6 f.0, ltb-true pos m f.1)
+may_remove_lem m pos e = grind (arith, common_steps)
 
 -- an extension asks what an insertion at the end asks
 pub at_the_end : (m n : ℕ) → may_insert m m n ≡ may_extend m n
 unfolding may_insert may_extend
-at_the_end m n = rw (le-leb m m (omega arith))
+at_the_end m n = grind (arith, common_steps)
