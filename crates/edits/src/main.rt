@@ -13,8 +13,8 @@ use opcode::record::OpCode;
 use opcode::registers::RegI;
 use opcode::timing::Timing;
 use owner::{Twice, extend_and_push, insert_and_remove};
-use std::io;
 use std::io::{Read, Write};
+use std::{array, io};
 use writer::{put, put_bytes};
 
 // A request: which owner, six T-states and a count for the record and for what is put in, and two numbers more.
@@ -28,22 +28,14 @@ fn timing(b: &[u8]) -> Timing
     requires { length b.now ≡ 7 }
 {
     Timing {
-        tstates: [
-            TStates(b[0]),
-            TStates(b[1]),
-            TStates(b[2]),
-            TStates(b[3]),
-            TStates(b[4]),
-            TStates(b[5]),
-        ],
+        tstates: array::from_fn(|i| TStates(b[i])),
         mcycles: MCycles(b[6]),
     }
 }
 
 // LD (IX-128), 07 with a third operand and row times of its own, so that every place has something, and with the request's T-states.
 fn record(held: Timing) -> OpCode {
-    let tstates = held.tstates;
-    let mcycles = held.mcycles;
+    let Timing { tstates, mcycles } = held;
     OpCode {
         length: Bytes(4),
         ins: Instruction::LD,
@@ -62,10 +54,10 @@ fn record(held: Timing) -> OpCode {
 fn edited(asked: u8, rec: OpCode, more: Timing, first: u8, second: u8) -> Twice
     ensures { result ≡ edits_of asked rec more first second }
 {
-    if asked == 0 {
-        return extend_and_push(rec, more, TStates(first));
+    match asked {
+        0 => extend_and_push(rec, more, TStates(first)),
+        _ => insert_and_remove(rec, first as usize, more, second as usize),
     }
-    insert_and_remove(rec, first as usize, more, second as usize)
 }
 
 // Each byte as two digits, with what stands before and behind each.
@@ -81,22 +73,17 @@ fn put_pairs(line: &mut [u8], at: usize, bytes: &[u8], before: &[u8], behind: &[
 
 fn put_answer(line: &mut [u8], at: usize, ok: bool) -> usize {
     let next = put(line, at, b' ');
-    if ok {
-        return put(line, next, b'1');
-    }
-    put(line, next, b'0')
+    put(line, next, if ok { b'1' } else { b'0' })
 }
 
 // The request, what the edits say, and the record as they left it.
 fn write_line<W: Write>(output: &mut W, request: &[u8], left: Twice) -> io::Result<()> {
     let mut line = [0u8; LINE_SIZE];
-    let rec = left.rec;
-    let bytes = layout(rec);
     let mut at = put_pairs(&mut line, 0, request, b"", b" ");
     at = put(&mut line, at, b'=');
     at = put_answer(&mut line, at, left.first);
     at = put_answer(&mut line, at, left.second);
-    at = put_pairs(&mut line, at, &bytes, b" ", b"");
+    at = put_pairs(&mut line, at, &layout(left.rec), b" ", b"");
     put(&mut line, at, b'\n');
     output.write_all(&line)
 }
@@ -119,18 +106,8 @@ fn read_full<R: Read>(from: &mut R, input: &mut [u8]) -> usize
     ensures { result ≤ length input.old }
 {
     let mut done = 0;
-    while done < input.len() {
-        match from.read(&mut input[done..]) {
-            Ok(n) => {
-                if n == 0 {
-                    return done;
-                }
-                done += n;
-            }
-            Err(_) => {
-                return done;
-            }
-        }
+    while let Ok(n @ 1..) = from.read(&mut input[done..]) {
+        done += n;
     }
     done
 }
@@ -140,10 +117,8 @@ fn main(rt: HostRuntime) -> io::Result<()> {
     let mut input = [0u8; INPUT_MAX];
     let mut output = rt.stdout();
     let got = read_full(&mut rt.stdin(), &mut input);
-    let mut at = 0;
-    while REQUEST_SIZE <= got - at {
-        answer(&mut output, &input[at..at + REQUEST_SIZE])?;
-        at += REQUEST_SIZE;
+    for request in input[..got].chunks_exact(REQUEST_SIZE) {
+        answer(&mut output, request)?;
     }
     Ok(())
 }

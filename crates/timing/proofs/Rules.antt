@@ -1,12 +1,13 @@
 -- What the edits' definitions imply: a record as decoding makes it stays one, and a refused edit's record is the one that came. Assumes nothing.
-use mathlib.Core.Path.{◌≡◌, refl, sym, ap, ◌∙◌}
-use mathlib.Core.Bool.{Bool, true, false, cond, true≢false}
+use mathlib.Core.Path.{◌≡◌, refl, ap, ◌∙◌}
+use mathlib.Core.Bool.{Bool, true, false, cond}
 use mathlib.Core.List.{List, [], ◌∷◌}
 use Prim.Native.Nat.{ℕ, zero, suc, ◌+◌, ◌-◌, ◌<◌, ◌≤◌}
 use native.Mathlib.Omega.{arith}
 use lib.ListN.{length, take, drop, get_or, get_or-eq_default}
 use lib.Seq.{get_or-take, get_or-drop, length-take-le}
 use lib.Dec.{ltb}
+use Rattle.std.proofs.lemmas.Grind.{common_steps}
 use borrow.Author.Tests.{ltb-true, ltb-false}
 use Rattle.std.specs.Prelude.{IfErr}
 use Rattle.opcode.specs.declared.counts.TStates.{TStates}
@@ -22,13 +23,7 @@ Clear l n = (k : ℕ) → n ≤ k → k < 6 → get_or l k unfilled ≡ unfilled
 
 -- the first n of six places, and zeros behind
 cut : (l : List TStates) (n k : ℕ) → length l ≡ 6 → n ≤ 6 → Clear l n → k < 6 → get_or l k unfilled ≡ get_or (take n l) k unfilled
-cut l n k six_long most clear h = by_test (ltb k n) refl
-  where
-    by_test : (b : Bool) → ltb k n ≡ b → get_or l k unfilled ≡ get_or (take n l) k unfilled
-    by_test true p = sym (get_or-take n l k unfilled (ltb-true k n p))
-    by_test false p =
-        clear k (ltb-false k n p) h
-        ∙ sym (get_or-eq_default (take n l) unfilled (omega (arith, ltb-false k n p, length-take-le n l (omega (arith, six_long, most)))))
+cut l n k six_long most clear h = grind (arith, common_steps, get_or-take {A = TStates}, get_or-eq_default {A = TStates}, length-take-le {A = TStates}, clear k)
 
 -- so it is with the places of a record that decoding makes, and such a record is made of them
 six_long : (r : OpCode) → Formed r → length r.tstates ≡ 6
