@@ -22,7 +22,7 @@ fn paces(part: u8) -> u64
     }
 }
 
-#[tactic(auto, unfolding(crate::specs::Paces::pace_digit, crate::specs::Digits::lesser_of))]
+#[tactic(auto, unfolding(crate::specs::Paces::pace_digit))]
 fn pace(n: u8) -> u8
     ensures { result ≡ pace_digit n }
 {
