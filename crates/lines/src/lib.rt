@@ -2,7 +2,7 @@
 #![tactic(auto)]
 
 ghost use Rattle.std.specs.Prelude.{◌≡◌, ◌+◌, ◌<◌, ◌≤◌, leb, length, drop};
-ghost use Rattle.writer.specs.Wrote.{Wrote};
+ghost use Rattle.writer.specs.Puts.{Puts};
 ghost use Rattle.image.specs.Places.{window};
 ghost use Rattle.listing.specs.Rows.{line_of, passed_of};
 ghost use Rattle.listing.specs.Answers.{told_by, row_outcome};
@@ -13,29 +13,19 @@ use line::{LINE_MAX, passed, put_line};
 use listing::Listed;
 use table::Mode;
 use window::decode_at;
-use writer::give;
+use writer::{Writer, give};
 
-// What writing rows came to: the place behind their lines, and the bytes of the image that they pass.
-#[derive(Clone, Copy)]
-struct Put {
-    next: usize,
-    passed: usize,
-}
-
-// The row at a place of the image.
-fn put_row(mode: Mode, image: &[u8], origin: u16, place: usize, buf: &mut [u8], at: usize) -> Put
+// The row at a place of the image: its line, and the bytes of the image that it passes.
+fn put_row(mode: Mode, image: &[u8], origin: u16, place: usize, out: &mut Writer) -> usize
     requires place_in_bounds { place < length image.now }
     requires image_bound { origin + length image.now ≤ 65536 }
-    ensures wrote { Wrote buf.old at (line_of mode (origin + place) (window (drop place image.now))) buf.new result.next }
-    ensures passed { result.passed ≡ passed_of mode (window (drop place image.now)) }
+    ensures wrote { Puts out.old (line_of mode (origin + place) (window (drop place image.now))) out.new }
+    ensures passed { result ≡ passed_of mode (window (drop place image.now)) }
 {
     let decoded = decode_at(mode, image, place);
     let address = origin + place as u16;
-    let next = put_line(buf, at, address, decoded, image[place]);
-    Put {
-        next,
-        passed: passed(decoded),
-    }
+    put_line(out, address, decoded, image[place]);
+    passed(decoded)
 }
 
 // The row at an address of the image, whose first byte stands at `origin`, in a mode: its line to the front of `out`. It is made
@@ -51,13 +41,14 @@ pub fn row(mode: Mode, image: &[u8], origin: u16, address: u16, out: &mut [u8]) 
     }
     let mut line = [0u8; LINE_MAX];
     let place = (address - origin) as usize;
-    let put = put_row(mode, image, origin, place, &mut line, 0);
-    let count = put.next;
-    if give(&line[0..count], out) {
-        return Listed::Done {
-            count,
-            passed: put.passed,
-        };
+    let mut writer = Writer {
+        buf: &mut line,
+        at: 0,
+    };
+    let passed = put_row(mode, image, origin, place, &mut writer);
+    let count = writer.at;
+    if give(&writer.buf[..count], out) {
+        return Listed::Done { count, passed };
     }
     Listed::NoRoom
 }
@@ -72,8 +63,12 @@ fn has_room(mode: Mode, image: &[u8], origin: u16, place: usize, room: usize) ->
         return true;
     }
     let mut line = [0u8; LINE_MAX];
-    let put = put_row(mode, image, origin, place, &mut line, 0);
-    put.next <= room
+    let mut writer = Writer {
+        buf: &mut line,
+        at: 0,
+    };
+    put_row(mode, image, origin, place, &mut writer);
+    writer.at <= room
 }
 
 // The rows from an address on, as many whole lines as fit: their lines to the front of `out`, one behind the other.
@@ -87,19 +82,19 @@ pub fn rows(mode: Mode, image: &[u8], origin: u16, address: u16, out: &mut [u8])
         return Listed::Nothing;
     }
     let start = (address - origin) as usize;
-    let mut next = 0;
+    let mut writer = Writer { buf: out, at: 0 };
     let mut place = start;
-    while place < image.len() && has_room(mode, image, origin, place, out.len() - next) {
-        let put = put_row(mode, image, origin, place, out, next);
-        let passed = put.passed;
-        next = put.next;
+    while place < image.len()
+        && has_room(mode, image, origin, place, writer.buf.len() - writer.at)
+    {
+        let passed = put_row(mode, image, origin, place, &mut writer);
         place += passed;
     }
     if place == start {
         return Listed::NoRoom;
     }
     Listed::Done {
-        count: next,
+        count: writer.at,
         passed: place - start,
     }
 }

@@ -8,7 +8,7 @@ use layout::layout;
 use staged::disas;
 use std::io;
 use std::io::{Read, Write};
-use writer::{put, put_bytes};
+use writer::Writer;
 
 // A request: the count of free bytes, 0 to 2, that of fixed ones, 0 to 5, then five bytes.
 const REQUEST_SIZE: usize = 7;
@@ -56,9 +56,10 @@ fn add<W: Write>(
     let rec = decoded.rec;
     let record = layout(rec);
     let end = at + OUTCOME_SIZE;
-    let second = put(out, at, number(answer));
-    let third = put(out, second, missing(answer));
-    put_bytes(out, third, &record);
+    let mut outcome = Writer { buf: out, at };
+    outcome.put(number(answer));
+    outcome.put(missing(answer));
+    outcome.put_bytes(&record);
     if out.len() - end < OUTCOME_SIZE {
         write_front(output, out, end)?;
         return Ok(0);

@@ -10,7 +10,7 @@ use opcode::record::OpCode;
 use record_text::put_text;
 use table::{Answer, Mode};
 use wording::Written;
-use writer::give;
+use writer::{Writer, give};
 
 // The largest choice: all three parts.
 const CHOICE_MAX: u8 = 7;
@@ -29,8 +29,13 @@ pub fn text(mode: Mode, choice: u8, ins: &[u8], out: &mut [u8]) -> Written
     match answer {
         Answer::Done => {
             let mut line = [0u8; OpCode::TEXT_MAX];
-            let n = put_text(&mut line, 0, rec, choice);
-            if give(&line[0..n], out) {
+            let mut writer = Writer {
+                buf: &mut line,
+                at: 0,
+            };
+            put_text(&mut writer, rec, choice);
+            let n = writer.at;
+            if give(&writer.buf[..n], out) {
                 return Written::Done(n);
             }
             Written::NoRoom

@@ -18,4 +18,4 @@ returns-then-room-ge-LINE_MAX c = sym (le-leb _ c.args.room (omega (arith, most 
 pub returns : goal.returns
 returns c =
     ap (λ (n : ℕ). leb n c.args.room)
-    (counted c.put_row-put.ensures.wrote (most c.args.mode c.args.image.now c.args.origin c.args.place (λ j. (c.type_inv.image j).fits)))
+    (counted c.put_row.ensures.wrote.wrote (most c.args.mode c.args.image.now c.args.origin c.args.place (λ j. (c.type_inv.image j).fits)))
