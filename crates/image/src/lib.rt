@@ -1,7 +1,7 @@
 // An image, whose first byte stands at the address `origin`, and its places.
 #![tactic(auto)]
 
-ghost use Rattle.std.specs.Prelude.{◌≡◌, ◌+◌, ◌<◌, ◌≤◌, IfSome, is_none, length, drop};
+ghost use Rattle.std.specs.Prelude.{◌≡◌, ℕ, ◌+◌, ◌<◌, ◌≤◌, IfSome, is_none, length, drop, slice_index};
 ghost use Rattle.image.specs.Places.{wrong_size, outside, window};
 
 // The addresses that there are: an image ends with the last of them at the latest.
@@ -17,6 +17,8 @@ pub struct Image<'a> {
     pub origin: u16,
     ghost some: { 0 < length bytes.now },
     ghost fits: { origin + length bytes.now ≤ 65536 },
+    // What a slice's type says is not known of one in a struct.
+    ghost bytes_fit: { (k : ℕ) → slice_index bytes.now k < 256 },
 }
 
 impl<'a> Image<'a> {
