@@ -59,8 +59,7 @@ fn has_room(mode: Mode, image: &Image, place: usize, room: usize) -> bool
         return true;
     }
     let mut line = [0u8; LINE_MAX];
-    let lines = put_row(mode, image, place, &mut line, 0);
-    lines.count <= room
+    put_row(mode, image, place, &mut line, 0).count <= room
 }
 
 // The rows from an address on, as many whole lines as fit: their lines to the front of `out`, one behind the other.

@@ -1,5 +1,5 @@
 -- A decoded record's text has room in the line, and the part of the line that is given is the text itself.
-use Rattle.std.proofs.Common.{arith, ◌≡◌, ℕ, ◌-◌, ◌≤◌, Bool, cond, leb, List, ◌++◌, take, drop, length, refl, sym, ap}
+use Rattle.std.proofs.Common.{arith, ◌≡◌, ℕ, ◌≤◌, Bool, cond, leb, List, ◌++◌, take, drop, length, refl, sym, ap}
 use mathlib.Core.Path.{◌∙◌}
 use borrow.Author.Tests.{le-ltb}
 use Rattle.table.specs.declared.Answer.{Answer}
@@ -40,18 +40,18 @@ pub slice_bounds-give-end : goal.slice_bounds-give-end
 slice_bounds-give-end c =
     part_size c.put_text-count.ensures (fits c.args.mode c.args.choice c.args.ins.now c.disas-answer.result (λ j. (c.type_inv.ins j).fits) c.disas-answer.ensures.answer c.in-Done.is)
 
-pub returns-then-give : goal.returns-then-give
-returns-then-give c =
+pub returns : goal.returns
+returns c =
     let room = fits c.args.mode c.args.choice c.args.ins.now c.disas-answer.result (λ j. (c.type_inv.ins j).fits) c.disas-answer.ensures.answer c.in-Done.is in
     let w = c.put_text-count.ensures in
-    let has = whether w room _ c.if-give.ensures.answer in
+    let has = whether w room _ c.if-not-give.ensures.answer in
     rw (le-ltb 7 c.args.choice (omega arith), ← c.disas-answer.ensures.answer, c.in-Done.is, has)
     (rw (counted w room, rw has at (becomes w room _ c.give.ensures.bytes)) refl)
 
-pub returns-else-give : goal.returns-else-give
-returns-else-give c =
+pub returns-then-not-give : goal.returns-then-not-give
+returns-then-not-give c =
     let room = fits c.args.mode c.args.choice c.args.ins.now c.disas-answer.result (λ j. (c.type_inv.ins j).fits) c.disas-answer.ensures.answer c.in-Done.is in
     let w = c.put_text-count.ensures in
-    let has = whether w room _ c.if-give.ensures.answer in
+    let has = whether w room _ c.if-not-give.ensures.answer in
     rw (le-ltb 7 c.args.choice (omega arith), ← c.disas-answer.ensures.answer, c.in-Done.is, has)
     (rw (rw has at (becomes w room _ c.give.ensures.bytes)) refl)
