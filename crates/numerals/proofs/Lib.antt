@@ -1,2 +1,3 @@
+pub mod Each
 pub mod Sign
 pub mod Worked

@@ -10,7 +10,7 @@ use opcode::record::OpCode;
 use record_text::put_text;
 use table::{Answer, Decoded, Mode};
 use wording::TextRefusal;
-use writer::give;
+use writer::{Writer, give};
 
 // The largest choice: all three parts.
 const CHOICE_MAX: u8 = 7;
@@ -31,8 +31,13 @@ pub fn text(mode: Mode, choice: u8, ins: &[u8], out: &mut [u8]) -> Result<usize,
         Answer::Long => return Err(TextRefusal::Long),
     }
     let mut line = [0u8; OpCode::TEXT_MAX];
-    let count = put_text(&mut line, 0, rec, choice);
-    if !give(&line[..count], out) {
+    let mut writer = Writer {
+        buf: &mut line,
+        at: 0,
+    };
+    put_text(&mut writer, rec, choice);
+    let count = writer.at;
+    if !give(&writer.buf[..count], out) {
         return Err(TextRefusal::NoRoom);
     }
     Ok(count)
