@@ -22,32 +22,36 @@ left out t = cond (leb (length t) (length out)) (t ++ drop (length t) out) out
 
 -- a text t in a line of n bytes
 module _ {old line t : List ℕ} {n : ℕ} (w : Wrote old 0 t line n) (room : length t ≤ length old) where
-  part : take (n - 0) line ≡ t
-  part = let e : n - 0 ≡ n = omega arith in ap (λ (m : ℕ). take m line) e ∙ front w room
+  part_size : n ≡ length (take n line)
+  part_size = counted w room ∙ sym (ap length (front w room))
 
-  whether : {fitted : Bool} (out : List ℕ) → fitted ≡ leb (length (take (n - 0) line)) (length out) → leb (length t) (length out) ≡ fitted
-  whether out e = sym (e ∙ ap (λ (l : List ℕ). leb (length l) (length out)) part)
+  whether : {fitted : Bool} (out : List ℕ) → fitted ≡ leb (length (take n line)) (length out) → leb (length t) (length out) ≡ fitted
+  whether out e = sym (e ∙ ap (λ (l : List ℕ). leb (length l) (length out)) (front w room))
 
-  becomes : {new : List ℕ} (out : List ℕ) → new ≡ left out (take (n - 0) line) → new ≡ left out t
-  becomes out e = e ∙ ap (left out) part
+  becomes : {new : List ℕ} (out : List ℕ) → new ≡ left out (take n line) → new ≡ left out t
+  becomes out e = e ∙ ap (left out) (front w room)
+
+pub slice_bounds-line-end : goal.slice_bounds-line-end
+slice_bounds-line-end c =
+    let room = fits c.args.mode c.args.choice c.args.ins.now c.disas-answer.result (λ j. (c.type_inv.ins j).fits) c.disas-answer.ensures.answer c.in-Done.is in
+    omega (arith, counted c.put_text-count.ensures room, room, size c.put_text-count.ensures)
 
 pub slice_bounds-give-end : goal.slice_bounds-give-end
 slice_bounds-give-end c =
-    let room = fits c.args.mode c.args.choice c.args.ins.now c.disas-decoded.result (λ j. (c.type_inv.ins j).fits) c.disas-decoded.ensures.answer c.in-Done.is in
-    omega (arith, counted c.put_text-n.ensures room, room, size c.put_text-n.ensures)
+    part_size c.put_text-count.ensures (fits c.args.mode c.args.choice c.args.ins.now c.disas-answer.result (λ j. (c.type_inv.ins j).fits) c.disas-answer.ensures.answer c.in-Done.is)
 
 pub returns-then-give : goal.returns-then-give
 returns-then-give c =
-    let room = fits c.args.mode c.args.choice c.args.ins.now c.disas-decoded.result (λ j. (c.type_inv.ins j).fits) c.disas-decoded.ensures.answer c.in-Done.is in
-    let w = c.put_text-n.ensures in
+    let room = fits c.args.mode c.args.choice c.args.ins.now c.disas-answer.result (λ j. (c.type_inv.ins j).fits) c.disas-answer.ensures.answer c.in-Done.is in
+    let w = c.put_text-count.ensures in
     let has = whether w room _ c.if-give.ensures.answer in
-    rw (le-ltb 7 c.args.choice (omega arith), ← c.disas-decoded.ensures.answer, c.in-Done.is, has)
+    rw (le-ltb 7 c.args.choice (omega arith), ← c.disas-answer.ensures.answer, c.in-Done.is, has)
     (rw (counted w room, rw has at (becomes w room _ c.give.ensures.bytes)) refl)
 
 pub returns-else-give : goal.returns-else-give
 returns-else-give c =
-    let room = fits c.args.mode c.args.choice c.args.ins.now c.disas-decoded.result (λ j. (c.type_inv.ins j).fits) c.disas-decoded.ensures.answer c.in-Done.is in
-    let w = c.put_text-n.ensures in
+    let room = fits c.args.mode c.args.choice c.args.ins.now c.disas-answer.result (λ j. (c.type_inv.ins j).fits) c.disas-answer.ensures.answer c.in-Done.is in
+    let w = c.put_text-count.ensures in
     let has = whether w room _ c.if-give.ensures.answer in
-    rw (le-ltb 7 c.args.choice (omega arith), ← c.disas-decoded.ensures.answer, c.in-Done.is, has)
+    rw (le-ltb 7 c.args.choice (omega arith), ← c.disas-answer.ensures.answer, c.in-Done.is, has)
     (rw (rw has at (becomes w room _ c.give.ensures.bytes)) refl)
