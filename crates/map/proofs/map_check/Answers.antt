@@ -1,63 +1,23 @@
--- The tests in their order.
-use Rattle.std.proofs.Common.{refl}
-use borrow.Author.Tests.{eq-eqb, ne_eqb, lt-ltb, le-ltb}
+-- The answer, which the check finds, is the one that the rules name.
+use Rattle.std.proofs.Common.{◌+◌, rules}
+use Rattle.std.specs.Prelude.{Err}
+use Rattle.marking.specs.declared.MapError.{MapError}
 use Rattle.marking.specs.Check.{check_of}
 use Rattle.map.proofs.Named.{named}
 use Rattle.map.proofs.map_check.Goals as goal
 
-pub returns-then-is_wrong_size : goal.returns-then-is_wrong_size
+pub returns-then-is_wrong_count-clause-rules : goal.returns-then-is_wrong_count-clause-rules
 unfolding check_of
-returns-then-is_wrong_size c =
-    let n = named c.args.mode _ c.args.entries.now _ (rw (← c.is_wrong_size.ensures, c.if-is_wrong_size.true) refl) in
-    record { answer = n.0; rules = n.1 }
+returns-then-is_wrong_count-clause-rules c = named c.args.mode _ _ (Err MapError.EntryCount) (search rules)
 
-pub returns-then-marks-image : goal.returns-then-marks-image
+pub returns-in-Some-clause-rules : goal.returns-in-Some-clause-rules
 unfolding check_of
-returns-then-marks-image c =
-    let n = named c.args.mode _ c.args.entries.now _ (rw (← c.is_wrong_size.ensures, c.if-is_wrong_size.false) (rw (ne_eqb _ _ c.if-marks-image.true) refl)) in
-    record { answer = n.0; rules = n.1 }
+returns-in-Some-clause-rules c = named c.args.mode _ _ (Err (MapError.MarkValue (c.args.origin + c.in-Some.place))) (search rules)
 
-pub returns-then-is_wrong_count : goal.returns-then-is_wrong_count
+pub returns-in-Some-first_entry-clause-rules : goal.returns-in-Some-first_entry-clause-rules
 unfolding check_of
-returns-then-is_wrong_count c =
-    let n =
-    named c.args.mode _ c.args.entries.now _
-    (rw (← c.is_wrong_size.ensures, c.if-is_wrong_size.false)
-    (rw (eq-eqb _ _ c.if-marks-image.false)
-    (rw (← c.is_wrong_count.ensures, c.if-is_wrong_count.true) refl))) in
-    record { answer = n.0; rules = n.1 }
+returns-in-Some-first_entry-clause-rules c = named c.args.mode _ _ (Err (MapError.EntryNotStart c.in-Some-first_entry.address)) (search rules)
 
-pub returns-then-over-marks : goal.returns-then-over-marks
+pub returns-clause-rules : goal.returns-clause-rules
 unfolding check_of
-returns-then-over-marks c =
-    let n =
-    named c.args.mode _ c.args.entries.now _
-    (rw (← c.is_wrong_size.ensures, c.if-is_wrong_size.false)
-    (rw (eq-eqb _ _ c.if-marks-image.false)
-    (rw (← c.is_wrong_count.ensures, c.if-is_wrong_count.false)
-    (rw (← c.first_over-over.ensures, lt-ltb _ _ c.if-over-marks.true) refl)))) in
-    record { answer = n.0; rules = n.1 }
-
-pub returns-in-At : goal.returns-in-At
-unfolding check_of
-returns-in-At c =
-    let n =
-    named c.args.mode _ c.args.entries.now _
-    (rw (← c.is_wrong_size.ensures, c.if-is_wrong_size.false)
-    (rw (eq-eqb _ _ c.if-marks-image.false)
-    (rw (← c.is_wrong_count.ensures, c.if-is_wrong_count.false)
-    (rw (← c.first_over-over.ensures, le-ltb _ _ c.if-over-marks.false)
-    (rw (← c.first_entry.ensures, c.in-At.is) refl))))) in
-    record { answer = n.0; rules = n.1 }
-
-pub returns-in-None : goal.returns-in-None
-unfolding check_of
-returns-in-None c =
-    let n =
-    named c.args.mode _ c.args.entries.now _
-    (rw (← c.is_wrong_size.ensures, c.if-is_wrong_size.false)
-    (rw (eq-eqb _ _ c.if-marks-image.false)
-    (rw (← c.is_wrong_count.ensures, c.if-is_wrong_count.false)
-    (rw (← c.first_over-over.ensures, le-ltb _ _ c.if-over-marks.false)
-    (rw (← c.first_entry.ensures, c.in-None.is) c.first_broken.ensures))))) in
-    record { answer = n.0; rules = n.1 }
+returns-clause-rules c = named c.args.mode _ _ _ (search rules)
