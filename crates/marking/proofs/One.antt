@@ -8,7 +8,7 @@ use mathlib.Core.Logic.{inl, inr, ⊎_elim, ◌↔◌}
 use lib.Dec.{eqb}
 use Rattle.std.specs.Prelude.{Ok, Err}
 use Rattle.std.proofs.lemmas.Bool.{cases_lt}
-use Rattle.marking.specs.declared.MapError.{MapError}
+use Rattle.marking.specs.declared.MapRefusal.{MapRefusal}
 use Rattle.marking.specs.Rules.{Look, Sane, Chart, entry, MarkValue, EntryNotStart, Passes}
 use Rattle.marking.specs.Verdict.{Checked, number_of, address_of, InOrder, Lowest, Some, Broken, unfinished, clipped, stray, bad_next, AnyAt, Verdict}
 use Rattle.marking.specs.Check.{check_of}
@@ -58,27 +58,27 @@ module _ (look : Look) (m : Chart) (es : List ℕ) where
 abbrev answer_by : ℕ → ℕ → Checked
 answer_by n a =
     cond (eqb n 0) (Ok tt)
-    (cond (eqb n 5) (Err MapError.ImageSize)
-    (cond (eqb n 6) (Err MapError.MarkSize)
-    (cond (eqb n 7) (Err MapError.EntryCount)
-    (cond (eqb n 8) (Err (MapError.MarkValue a))
-    (cond (eqb n 9) (Err (MapError.EntryNotStart a))
-    (cond (eqb n 10) (Err (MapError.Unfinished a))
-    (cond (eqb n 11) (Err (MapError.Clipped a))
-    (cond (eqb n 12) (Err (MapError.Stray a)) (Err (MapError.BadNext a))))))))))
+    (cond (eqb n 5) (Err MapRefusal.ImageSize)
+    (cond (eqb n 6) (Err MapRefusal.MarkSize)
+    (cond (eqb n 7) (Err MapRefusal.EntryCount)
+    (cond (eqb n 8) (Err (MapRefusal.MarkValue a))
+    (cond (eqb n 9) (Err (MapRefusal.EntryNotStart a))
+    (cond (eqb n 10) (Err (MapRefusal.Unfinished a))
+    (cond (eqb n 11) (Err (MapRefusal.Clipped a))
+    (cond (eqb n 12) (Err (MapRefusal.Stray a)) (Err (MapRefusal.BadNext a))))))))))
 
 -- number and address tell the answer
 told_by_lem : (x : Checked) → answer_by (number_of x) (address_of x) ≡ x
 told_by_lem (Ok done) = refl
-told_by_lem (Err MapError.ImageSize) = refl
-told_by_lem (Err MapError.MarkSize) = refl
-told_by_lem (Err MapError.EntryCount) = refl
-told_by_lem (Err (MapError.MarkValue a)) = refl
-told_by_lem (Err (MapError.EntryNotStart a)) = refl
-told_by_lem (Err (MapError.Unfinished a)) = refl
-told_by_lem (Err (MapError.Clipped a)) = refl
-told_by_lem (Err (MapError.Stray a)) = refl
-told_by_lem (Err (MapError.BadNext a)) = refl
+told_by_lem (Err MapRefusal.ImageSize) = refl
+told_by_lem (Err MapRefusal.MarkSize) = refl
+told_by_lem (Err MapRefusal.EntryCount) = refl
+told_by_lem (Err (MapRefusal.MarkValue a)) = refl
+told_by_lem (Err (MapRefusal.EntryNotStart a)) = refl
+told_by_lem (Err (MapRefusal.Unfinished a)) = refl
+told_by_lem (Err (MapRefusal.Clipped a)) = refl
+told_by_lem (Err (MapRefusal.Stray a)) = refl
+told_by_lem (Err (MapRefusal.BadNext a)) = refl
 
 pub answer_told : (x y : Checked) → number_of x ≡ number_of y → address_of x ≡ address_of y → x ≡ y
 answer_told x y n a = sym (told_by_lem x) ∙ rw (n, a) (told_by_lem y)

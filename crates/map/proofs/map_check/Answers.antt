@@ -1,23 +1,23 @@
 -- The answer, which the check finds, is the one that the rules name.
 use Rattle.std.proofs.Common.{◌+◌, rules}
 use Rattle.std.specs.Prelude.{Err}
-use Rattle.marking.specs.declared.MapError.{MapError}
+use Rattle.marking.specs.declared.MapRefusal.{MapRefusal}
 use Rattle.marking.specs.Check.{check_of}
 use Rattle.map.proofs.Named.{named}
 use Rattle.map.proofs.map_check.Goals as goal
 
 pub returns-then-is_wrong_count-clause-rules : goal.returns-then-is_wrong_count-clause-rules
 unfolding check_of
-returns-then-is_wrong_count-clause-rules c = named c.args.mode _ _ (Err MapError.EntryCount) (search rules)
+returns-then-is_wrong_count-clause-rules c = named c.args.mode _ _ (Err MapRefusal.EntryCount) (search rules)
 
 pub returns-in-Some-clause-rules : goal.returns-in-Some-clause-rules
 unfolding check_of
-returns-in-Some-clause-rules c = named c.args.mode _ _ (Err (MapError.MarkValue (c.args.origin + c.in-Some.place))) (search rules)
+returns-in-Some-clause-rules c = named c.args.mode _ _ (Err (MapRefusal.MarkValue (c.args.origin + c.in-Some.place))) (search rules)
 
 pub returns-in-Some-first_entry-clause-rules : goal.returns-in-Some-first_entry-clause-rules
 unfolding check_of
-returns-in-Some-first_entry-clause-rules c = named c.args.mode _ _ (Err (MapError.EntryNotStart c.in-Some-first_entry.address)) (search rules)
+returns-in-Some-first_entry-clause-rules c = named c.args.mode _ _ (Err (MapRefusal.EntryNotStart c.in-Some-first_entry.address)) (search rules)
 
 pub returns-clause-rules : goal.returns-clause-rules
 unfolding check_of
-returns-clause-rules c = named c.args.mode _ _ _ (search rules)
+returns-clause-rules c = named c.args.mode _ _ c.first_broken.result (search rules)
