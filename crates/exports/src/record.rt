@@ -6,7 +6,7 @@ ghost use Rattle.disas.specs.Says.{said};
 ghost use Rattle.exports.specs.Modes.{bad_mode, mode_of};
 ghost use Rattle.exports.specs.Record.{outcome, record_outcome};
 
-use super::modes::{BAD_MODE, is_bad_mode, mode_of};
+use super::modes::{BAD_MODE, mode_from};
 use answers::decodes::{missing as missing_of, number};
 use disas::{Found, find};
 use layout::{layout, layout_row};
@@ -27,11 +27,11 @@ fn fields(f: Found) -> [u8; 24]
 pub fn z80_record(mode: u8, ins: &[u8], out: &mut [u8], missing: &mut u32) -> u8
     ensures { outcome result missing.new out.new ≡ cond (bad_mode mode) (outcome 35 0 out.old) (record_outcome (decode_in (mode_of mode) ins.now) out.old) }
 {
-    if is_bad_mode(mode) {
+    let Some(mode) = mode_from(mode) else {
         *missing = 0;
         return BAD_MODE;
-    }
-    let f = find(mode_of(mode), ins);
+    };
+    let f = find(mode, ins);
     let answer = f.answer;
     let n = number(answer);
     *missing = missing_of(answer) as u32;

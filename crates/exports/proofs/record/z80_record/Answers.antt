@@ -14,12 +14,12 @@ told mode ins f bytes e = ap said e ∙ found_agrees mode ins bytes
 
 pub returns-then-n-eq0 : goal.returns-then-n-eq0
 returns-then-n-eq0 c =
-    rw (sym c.is_bad_mode.ensures ∙ c.if-is_bad_mode.false, ← c.mode_of.ensures, ← told c.mode_of.result c.args.ins.now c.find-f.result (λ k. (c.type_inv.ins k).fits) c.find-f.ensures, ← c.number-n.ensures, eq-eqb c.number-n.result 0 (omega arith), lt-ltb (length c.args.out.now) 24 (omega arith)) (rw c.missing.ensures refl)
+    rw (sym c.in-Some.ensures.refused, ← c.in-Some.ensures.made, ← told c.in-Some.mode c.args.ins.now c.find-f.result (λ k. (c.type_inv.ins k).fits) c.find-f.ensures, ← c.number-n.ensures, eq-eqb c.number-n.result 0 (omega arith), lt-ltb (length c.args.out.now) 24 (omega arith)) (rw c.missing.ensures refl)
 
 pub returns-then-out-lt-SIZE : goal.returns-then-out-lt-SIZE
 returns-then-out-lt-SIZE c =
-    rw (sym c.is_bad_mode.ensures ∙ c.if-is_bad_mode.false, ← c.mode_of.ensures, ← told c.mode_of.result c.args.ins.now c.find-f.result (λ k. (c.type_inv.ins k).fits) c.find-f.ensures, ← c.number-n.ensures, ne_eqb c.number-n.result 0 (λ e. omega arith), lt-ltb (length c.args.out.now) 24 (omega arith)) (rw c.missing.ensures refl)
+    rw (sym c.in-Some.ensures.refused, ← c.in-Some.ensures.made, ← told c.in-Some.mode c.args.ins.now c.find-f.result (λ k. (c.type_inv.ins k).fits) c.find-f.ensures, ← c.number-n.ensures, ne_eqb c.number-n.result 0 (λ e. omega arith), lt-ltb (length c.args.out.now) 24 (omega arith)) (rw c.missing.ensures refl)
 
 pub returns : goal.returns
 returns c =
-    rw (sym c.is_bad_mode.ensures ∙ c.if-is_bad_mode.false, ← c.mode_of.ensures, ← told c.mode_of.result c.args.ins.now c.find-f.result (λ k. (c.type_inv.ins k).fits) c.find-f.ensures, ← c.number-n.ensures, le-ltb (length c.args.out.now) 24 c.if-out-lt-SIZE.false) (rw (c.missing.ensures, c.copy_from_slice.ensures.after, c.fields-bytes.ensures) refl)
+    rw (sym c.in-Some.ensures.refused, ← c.in-Some.ensures.made, ← told c.in-Some.mode c.args.ins.now c.find-f.result (λ k. (c.type_inv.ins k).fits) c.find-f.ensures, ← c.number-n.ensures, le-ltb (length c.args.out.now) 24 c.if-out-lt-SIZE.false) (rw (c.missing.ensures, c.copy_from_slice.ensures.after, c.fields-bytes.ensures) refl)
