@@ -7,11 +7,11 @@ ghost use Rattle.marking.specs.Check.{first_over, all_inside, is_start, all_star
 
 use marking::Links;
 
-// The mark of a row's first byte.
-const START: u8 = 1;
+// The mark of an instruction's first byte.
+pub const START: u8 = 1;
 
 // The largest mark: a byte inside an instruction.
-const INSIDE: u8 = 2;
+pub const INSIDE: u8 = 2;
 
 // The largest number of entries.
 const ENTRIES: usize = 256;
