@@ -28,8 +28,7 @@ pub fn z80_map_check(
         *address = 0;
         return BAD_MODE;
     };
-    let checked = map_check(mode, image, origin, marks, entries);
-    let told = tell(checked);
+    let told = tell(map_check(mode, image, origin, marks, entries));
     *address = told.at as u32;
     told.number
 }
