@@ -1,5 +1,5 @@
 // The mode as a host gives it: 0 the Rust's, 1 the chip's.
-ghost use Rattle.std.specs.Prelude.{◌≡◌};
+ghost use Rattle.std.specs.Prelude.{◌≡◌, IfSome, is_none};
 ghost use Rattle.exports.specs.Modes.{bad_mode, mode_of};
 
 use table::Mode;
@@ -7,17 +7,13 @@ use table::Mode;
 // The number of any other.
 pub(crate) const BAD_MODE: u8 = 35;
 
-pub(crate) fn is_bad_mode(mode: u8) -> bool
-    ensures { result ≡ bad_mode mode }
+pub(crate) fn mode_from(number: u8) -> Option<Mode>
+    ensures refused { is_none result ≡ bad_mode number }
+    ensures made { IfSome result (λ mode. mode ≡ mode_of number) }
 {
-    1 < mode
-}
-
-pub(crate) fn mode_of(mode: u8) -> Mode
-    ensures { result ≡ mode_of mode }
-{
-    if mode == 0 {
-        return Mode::Rust;
+    match number {
+        0 => Some(Mode::Rust),
+        1 => Some(Mode::Chip),
+        _ => None,
     }
-    Mode::Chip
 }

@@ -4,7 +4,7 @@ ghost use Rattle.table.specs.Chip.{decode_in};
 ghost use Rattle.exports.specs.Modes.{bad_mode, mode_of};
 ghost use Rattle.exports.specs.Record.{outcome, record_outcome};
 
-use super::modes::{BAD_MODE, is_bad_mode, mode_of};
+use super::modes::{BAD_MODE, mode_from};
 use answers::decodes::{missing as missing_of, number};
 use disas::find;
 use layout::{SIZE, layout, layout_row};
@@ -27,11 +27,11 @@ fn put(bytes: [u8; SIZE], out: &mut [u8]) -> bool
 pub fn z80_record(mode: u8, ins: &[u8], out: &mut [u8], missing: &mut u32) -> u8
     ensures { outcome result missing.new out.new ≡ cond (bad_mode mode) (outcome 35 0 out.old) (record_outcome (decode_in (mode_of mode) ins.now) out.old) }
 {
-    if is_bad_mode(mode) {
+    let Some(mode) = mode_from(mode) else {
         *missing = 0;
         return BAD_MODE;
-    }
-    match find(mode_of(mode), ins) {
+    };
+    match find(mode, ins) {
         Ok(f) => {
             *missing = 0;
             let room = put(layout_row(f.row, f.lo, f.hi, f.data), out);

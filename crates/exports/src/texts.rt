@@ -4,7 +4,7 @@ ghost use Rattle.table.specs.Chip.{decode_in};
 ghost use Rattle.exports.specs.Modes.{bad_mode, mode_of};
 ghost use Rattle.wording.specs.Answers.{outcome, text_outcome};
 
-use super::modes::{BAD_MODE, is_bad_mode, mode_of};
+use super::modes::{BAD_MODE, mode_from};
 use answers::texts::tell;
 use text::text;
 
@@ -20,13 +20,12 @@ pub fn z80_text(
 ) -> u8
     ensures { outcome result count.new missing.new out.new ≡ cond (bad_mode mode) (outcome 35 0 0 out.old) (text_outcome choice (decode_in (mode_of mode) ins.now) out.old) }
 {
-    if is_bad_mode(mode) {
+    let Some(mode) = mode_from(mode) else {
         *count = 0;
         *missing = 0;
         return BAD_MODE;
-    }
-    let written = text(mode_of(mode), choice, ins, out);
-    let told = tell(written);
+    };
+    let told = tell(text(mode, choice, ins, out));
     *count = told.count as u32;
     *missing = told.missing as u32;
     told.number

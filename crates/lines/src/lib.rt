@@ -1,63 +1,62 @@
 // The rows of an image, by the promises of the decoder and of the line.
 #![tactic(auto)]
 
-ghost use Rattle.std.specs.Prelude.{◌≡◌, ◌+◌, ◌<◌, ◌≤◌, leb, length, drop};
+ghost use Rattle.std.specs.Prelude.{◌≡◌, ◌+◌, ◌<◌, leb, length, drop};
 ghost use Rattle.writer.specs.Puts.{Puts};
 ghost use Rattle.image.specs.Places.{window};
 ghost use Rattle.listing.specs.Rows.{line_of, passed_of};
 ghost use Rattle.listing.specs.Answers.{told_by, row_outcome};
 ghost use Rattle.listing.specs.Page.{rows_outcome};
 
-use image::{is_outside, is_wrong_size};
+use image::Image;
 use line::{LINE_MAX, passed, put_line};
-use listing::Listed;
+use listing::{Lines, ListingRefusal};
 use table::Mode;
 use window::decode_at;
 use writer::{Writer, give};
 
 // The row at a place of the image: its line, and the bytes of the image that it passes.
-fn put_row(mode: Mode, image: &[u8], origin: u16, place: usize, out: &mut Writer) -> usize
-    requires place_in_bounds { place < length image.now }
-    requires image_bound { origin + length image.now ≤ 65536 }
-    ensures wrote { Puts out.old (line_of mode (origin + place) (window (drop place image.now))) out.new }
-    ensures passed { result ≡ passed_of mode (window (drop place image.now)) }
+fn put_row(mode: Mode, image: &Image, place: usize, out: &mut Writer) -> usize
+    requires { place < length image.now.bytes.now }
+    ensures wrote { Puts out.old (line_of mode (image.now.origin + place) (window (drop place image.now.bytes.now))) out.new }
+    ensures passed { result ≡ passed_of mode (window (drop place image.now.bytes.now)) }
 {
-    let decoded = decode_at(mode, image, place);
-    let address = origin + place as u16;
-    put_line(out, address, decoded, image[place]);
+    let decoded = decode_at(mode, image.bytes, place);
+    let address = image.origin + place as u16;
+    put_line(out, address, decoded, image.bytes[place]);
     passed(decoded)
 }
 
 // The row at an address of the image, whose first byte stands at `origin`, in a mode: its line to the front of `out`. It is made
 // in a place of its own, so that nothing is written where it does not fit.
-pub fn row(mode: Mode, image: &[u8], origin: u16, address: u16, out: &mut [u8]) -> Listed
+pub fn row(
+    mode: Mode,
+    image: &[u8],
+    origin: u16,
+    address: u16,
+    out: &mut [u8],
+) -> Result<Lines, ListingRefusal>
     ensures { told_by result out.new ≡ row_outcome mode image.now origin address out.old }
 {
-    if is_wrong_size(image, origin) {
-        return Listed::ImageSize;
-    }
-    if is_outside(image, origin, address) {
-        return Listed::Nothing;
-    }
+    let image = Image::new(image, origin).ok_or(ListingRefusal::ImageSize)?;
+    let place = image.place_of(address).ok_or(ListingRefusal::Nothing)?;
     let mut line = [0u8; LINE_MAX];
-    let place = (address - origin) as usize;
     let mut writer = Writer {
         buf: &mut line,
         at: 0,
     };
-    let passed = put_row(mode, image, origin, place, &mut writer);
+    let passed = put_row(mode, &image, place, &mut writer);
     let count = writer.at;
-    if give(&writer.buf[..count], out) {
-        return Listed::Done { count, passed };
+    if !give(&writer.buf[..count], out) {
+        return Err(ListingRefusal::NoRoom);
     }
-    Listed::NoRoom
+    Ok(Lines { count, passed })
 }
 
 // Whether the line of the row at a place has that much room; one that has room for the longest is not made for it.
-fn has_room(mode: Mode, image: &[u8], origin: u16, place: usize, room: usize) -> bool
-    requires place_in_bounds { place < length image.now }
-    requires image_bound { origin + length image.now ≤ 65536 }
-    ensures { result ≡ leb (length (line_of mode (origin + place) (window (drop place image.now)))) room }
+fn has_room(mode: Mode, image: &Image, place: usize, room: usize) -> bool
+    requires { place < length image.now.bytes.now }
+    ensures { result ≡ leb (length (line_of mode (image.now.origin + place) (window (drop place image.now.bytes.now)))) room }
 {
     if LINE_MAX <= room {
         return true;
@@ -67,34 +66,32 @@ fn has_room(mode: Mode, image: &[u8], origin: u16, place: usize, room: usize) ->
         buf: &mut line,
         at: 0,
     };
-    put_row(mode, image, origin, place, &mut writer);
+    put_row(mode, image, place, &mut writer);
     writer.at <= room
 }
 
 // The rows from an address on, as many whole lines as fit: their lines to the front of `out`, one behind the other.
-pub fn rows(mode: Mode, image: &[u8], origin: u16, address: u16, out: &mut [u8]) -> Listed
+pub fn rows(
+    mode: Mode,
+    image: &[u8],
+    origin: u16,
+    address: u16,
+    out: &mut [u8],
+) -> Result<Lines, ListingRefusal>
     ensures { told_by result out.new ≡ rows_outcome mode image.now origin address out.old }
 {
-    if is_wrong_size(image, origin) {
-        return Listed::ImageSize;
-    }
-    if is_outside(image, origin, address) {
-        return Listed::Nothing;
-    }
-    let start = (address - origin) as usize;
+    let image = Image::new(image, origin).ok_or(ListingRefusal::ImageSize)?;
+    let start = image.place_of(address).ok_or(ListingRefusal::Nothing)?;
     let mut writer = Writer { buf: out, at: 0 };
     let mut place = start;
-    while place < image.len()
-        && has_room(mode, image, origin, place, writer.buf.len() - writer.at)
-    {
-        let passed = put_row(mode, image, origin, place, &mut writer);
-        place += passed;
+    while place < image.bytes.len() && has_room(mode, &image, place, writer.buf.len() - writer.at) {
+        place += put_row(mode, &image, place, &mut writer);
     }
     if place == start {
-        return Listed::NoRoom;
+        return Err(ListingRefusal::NoRoom);
     }
-    Listed::Done {
+    Ok(Lines {
         count: writer.at,
         passed: place - start,
-    }
+    })
 }
