@@ -1,26 +1,26 @@
 // The record of a row as bytes.
-ghost use Rattle.std.specs.Prelude.{◌≡◌, cond};
+ghost use Rattle.std.specs.Prelude.{◌≡◌, ◌++◌, cond, false, true, ltb, length, drop};
 ghost use Rattle.table.specs.Chip.{decode_in};
-ghost use Rattle.layout.specs.Layout.{layout_of};
-ghost use Rattle.disas.specs.Says.{said};
 ghost use Rattle.exports.specs.Modes.{bad_mode, mode_of};
 ghost use Rattle.exports.specs.Record.{outcome, record_outcome};
 
 use super::modes::{BAD_MODE, is_bad_mode, mode_of};
 use answers::decodes::{missing as missing_of, number};
-use disas::{Found, find};
-use layout::{layout, layout_row};
+use disas::find;
+use layout::{SIZE, layout, layout_row};
 use opcode::record::OpCode;
+use table::Answer;
 
-// What was found as bytes: the empty record where there is no row.
-fn fields(f: Found) -> [u8; 24]
-    ensures { result ≡ layout_of (said f).rec }
+// Writes a record to the front of `out`, if 24 bytes are lent; says whether they are.
+fn put(bytes: [u8; SIZE], out: &mut [u8]) -> bool
+    ensures room { result ≡ cond (ltb (length out.old) 24) false true }
+    ensures written { out.new ≡ cond (ltb (length out.old) 24) out.old (bytes ++ drop 24 out.old) }
 {
-    if f.row == 0 {
-        return layout(OpCode::new());
+    if out.len() < SIZE {
+        return false;
     }
-    let data = f.data;
-    layout_row(f.row, f.lo, f.hi, data)
+    out[..SIZE].copy_from_slice(&bytes);
+    true
 }
 
 // Decodes `ins` in a mode, says how many bytes are missing where that is Short and, where 24 bytes are lent, writes the record, which is empty on a refusal, to the front of `out`.
@@ -31,17 +31,17 @@ pub fn z80_record(mode: u8, ins: &[u8], out: &mut [u8], missing: &mut u32) -> u8
         *missing = 0;
         return BAD_MODE;
     }
-    let f = find(mode_of(mode), ins);
-    let answer = f.answer;
-    let n = number(answer);
-    *missing = missing_of(answer) as u32;
-    if out.len() < layout::SIZE {
-        if n == 0 {
-            return 4;
+    match find(mode_of(mode), ins) {
+        Ok(f) => {
+            *missing = 0;
+            let room = put(layout_row(f.row, f.lo, f.hi, f.data), out);
+            if room { 0 } else { 4 }
         }
-        return n;
+        Err(refusal) => {
+            let answer = Answer::from(refusal);
+            *missing = u32::from(missing_of(answer));
+            put(layout(OpCode::new()), out);
+            number(answer)
+        }
     }
-    let bytes = fields(f);
-    out[0..layout::SIZE].copy_from_slice(&bytes);
-    n
 }
