@@ -4,10 +4,10 @@ use mathlib.Core.List.{List, [], ◌∷◌, ◌++◌}
 use Prim.Native.Nat.{ℕ, zero, suc, ◌+◌, ◌-◌, ◌<◌, ◌≤◌}
 use native.Mathlib.Omega.{arith}
 use lib.ListN.{length, take, drop, get_or, length-append, length-drop, get_or-append}
-use lib.Seq.{get_or-drop, length-take-le}
+use lib.Seq.{get_or-drop, length-take-le, take_all}
 use Rattle.std.specs.List.{copy_within}
 use Rattle.std.proofs.lemmas.Grind.{common_steps}
-use Rattle.std.proofs.lemmas.List.{get_or-append_right}
+use Rattle.std.proofs.lemmas.List.{append_assoc, get_or-append_right}
 use Rattle.std.proofs.Math.Seq.{take-append-add}
 use mathlib.Core.Bool.{true}
 use Rattle.opcode.specs.declared.counts.TStates.{TStates}
@@ -56,19 +56,27 @@ module _ (l s : List TStates) (pos on k : ℕ) (fits : pos ≤ length l) where
       ∙ get_or-append_right s (drop on l) (length s) (k - pos) unfilled refl (omega arith)
       ∙ get_or-drop on l (k - pos - length s) unfilled
 
--- an insertion into six places: what stands from pos on is copied back, and then s is written over it
+-- a copy within six places is a write of what stands there
+pub copying : (t : List TStates) (i j to : ℕ) → length t ≡ 6 → j ≤ 6 → copy_within t i j to ≡ written t to (take (j - i) (drop i t))
+unfolding written
+copying t i j to those end =
+    rw (length-take-le (j - i) (drop i t) (omega (arith, length-drop i t, those, end))) (append_assoc (take to t) (take (j - i) (drop i t)) (drop (to + (j - i)) t))
+
+-- an insertion is two writes: what stands from pos on goes behind s, and then s over it
 module _ (t s : List TStates) (pos : ℕ) (those : length t ≡ 6) (fits : pos + length s ≤ 6) where
   -- so many of the places from pos on stay among the six
   abbrev staying : ℕ
   staying = 6 - length s - pos
 
-  abbrev copied : List TStates
-  copied = copy_within t pos (6 - length s) (pos + length s)
+  abbrev moved : List TStates
+  moved = written t (pos + length s) (take staying (drop pos t))
 
-  in_front : take pos copied ≡ take pos t
+  in_front : take pos moved ≡ take pos t
+  unfolding written
   in_front = grind (arith, common_steps, those, fits)
 
-  behind : drop (pos + length s) copied ≡ take staying (drop pos t)
+  behind : drop (pos + length s) moved ≡ take staying (drop pos t)
+  unfolding written
   behind = grind (arith, common_steps, those, fits)
 
   first_six : take 6 (take pos t ++ (s ++ drop pos t)) ≡ take pos t ++ (s ++ take staying (drop pos t))
@@ -78,11 +86,11 @@ module _ (t s : List TStates) (pos : ℕ) (those : length t ≡ 6) (fits : pos +
       ∙ take-append-add (take pos t) (s ++ drop pos t) (length s + staying)
       ∙ ap (λ (l : List TStates). take pos t ++ l) (take-append-add s (drop pos t) staying)
 
-  pub inserting : written copied pos s ≡ six (inserted t pos s)
+  pub inserting : written moved pos s ≡ six (inserted t pos s)
   unfolding written inserted
   inserting = rw (in_front, behind, six_take (take pos t ++ (s ++ drop pos t)) (omega (arith, length-append {A = TStates}, length-drop {A = TStates}, length-take-le pos t, those, fits)), first_six) refl
 
--- a removal: what stands behind pos is written one place up
+-- a removal is one: what stands behind pos goes one place up
 module _ (t : List TStates) (pos : ℕ) (those : length t ≡ 6) (fits : pos < 6) where
   pub rest_len : length (drop (pos + 1) t) ≡ 6 - 1 - pos
   rest_len = length-drop (pos + 1) t ∙ omega (arith, those)
@@ -90,6 +98,10 @@ module _ (t : List TStates) (pos : ℕ) (those : length t ≡ 6) (fits : pos < 6
   pub removed_len : length (removed t pos) ≡ 6
   unfolding removed written
   removed_len = grind (arith, common_steps, those, fits)
+
+  pub removing : written t pos (take (6 - (pos + 1)) (drop (pos + 1) t)) ≡ removed t pos
+  unfolding removed
+  removing = ap (λ (l : List TStates). written t pos l) (take_all (6 - (pos + 1)) (drop (pos + 1) t) (omega (arith, rest_len)))
 
 -- what the tests say
 pub may_insert_lem : (m pos n : ℕ) → may_insert m pos n ≡ true → (m ≤ 6) × (pos ≤ m) × (m + n ≤ 6)

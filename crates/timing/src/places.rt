@@ -17,7 +17,7 @@ pub(crate) fn with_written(mut t: [TStates; 6], to: usize, s: &[TStates]) -> [TS
 }
 
 // With s put in before place pos: what stands there moves back, and what passes the sixth place is lost.
-#[tactic(auto, using(crate::proofs::Laws::inserting))]
+#[tactic(auto, using(crate::proofs::Laws::copying, crate::proofs::Laws::inserting))]
 pub(crate) fn with_inserted(mut t: [TStates; 6], pos: usize, s: &[TStates]) -> [TStates; 6]
     requires { pos + length s.now ≤ 6 }
     ensures { result ≡ six (inserted t pos s.now) }
@@ -27,7 +27,7 @@ pub(crate) fn with_inserted(mut t: [TStates; 6], pos: usize, s: &[TStates]) -> [
 }
 
 // Without place pos: what stands behind it moves up, and the sixth place stays as it is.
-#[tactic(auto, unfolding(opcode::specs::Timing::removed, opcode::specs::Timing::written))]
+#[tactic(auto, using(crate::proofs::Laws::copying, crate::proofs::Laws::removing))]
 pub(crate) fn without(mut t: [TStates; 6], pos: usize) -> [TStates; 6]
     requires { pos < 6 }
     ensures { result ≡ removed t pos }
