@@ -1,5 +1,5 @@
 -- The chip's own way through the same pages, and the way of a mode. No promise rests on this file: it is proved equal to the table. Definitions only.
-use Rattle.std.specs.Prelude.{ℕ, cond, List, eqb, length, get_or, Result, Ok}
+use Rattle.std.specs.Prelude.{ℕ, cond, List, eqb, ltb, length, get_or, Result, Ok}
 use Rattle.opcode.specs.declared.counts.Bytes.{Bytes}
 use Rattle.table.specs.declared.Mode.{Mode}
 use Rattle.table.specs.Row.{gap}
@@ -19,7 +19,7 @@ defined_of r = cond (eqb r 0) 0x4400002200000023 r
 -- a prefix looks at the plain page alone
 unfoldable pub chip_prefix_of : List ℕ → Result ℕ Bytes
 chip_prefix_of s =
-    cond (eqb (length s) 1) (missing 1)
+    cond (ltb (length s) 2) (missing 1)
     (cond (eqb (second s) 0xCB) (whole_of (bits_of (first s) (get_or s 3 0) (packed (get_or cb (get_or s 3 0) gap))) (length s))
     (cond (eqb (second s) 0xEB) (Ok nop)
     (cond (eqb (second s) 0x36) (whole_of (load_of (first s)) (length s))

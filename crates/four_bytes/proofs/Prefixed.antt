@@ -19,37 +19,13 @@ use Rattle.four_bytes.specs.Replaced.{addr_replaced, hl_replaced, operands_repla
 
 -- what stands for (HL) is no byte
 index_no_byte : (i : Index) (d : ℕ) (q : Reg16) → is_imm8 (replace_addr i d (Place.Of (Operand.RegAddr q))) ≡ false
-index_no_byte ix d Reg16.AF = refl
-index_no_byte ix d Reg16.BC = refl
-index_no_byte ix d Reg16.DE = refl
 index_no_byte ix d Reg16.HL = refl
-index_no_byte ix d Reg16.SP = refl
-index_no_byte ix d Reg16.AFp = refl
-index_no_byte ix d Reg16.IX = refl
-index_no_byte ix d Reg16.IY = refl
-index_no_byte iy d Reg16.AF = refl
-index_no_byte iy d Reg16.BC = refl
-index_no_byte iy d Reg16.DE = refl
 index_no_byte iy d Reg16.HL = refl
-index_no_byte iy d Reg16.SP = refl
-index_no_byte iy d Reg16.AFp = refl
-index_no_byte iy d Reg16.IX = refl
-index_no_byte iy d Reg16.IY = refl
+index_no_byte i d _ = refl
 
 byte_kept : (i : Index) (d : ℕ) (p : Place) → is_imm8 (replace_addr i d p) ≡ is_imm8 p
-byte_kept i d Place.Empty = refl
-byte_kept i d (Place.Of (Operand.Imm8 x)) = refl
-byte_kept i d (Place.Of (Operand.Imm16 x)) = refl
-byte_kept i d (Place.Of (Operand.RelAddr x)) = refl
-byte_kept i d (Place.Of (Operand.Address x)) = refl
-byte_kept i d (Place.Of (Operand.IOAddress x)) = refl
-byte_kept i d (Place.Of (Operand.RegI x)) = refl
-byte_kept i d (Place.Of (Operand.Reg8 x)) = refl
-byte_kept i d (Place.Of (Operand.Reg16 x)) = refl
 byte_kept i d (Place.Of (Operand.RegAddr q)) = index_no_byte i d q
-byte_kept i d (Place.Of (Operand.RegIOAddr x)) = refl
-byte_kept i d (Place.Of (Operand.FlagCondition x)) = refl
-byte_kept i d (Place.Of Operand.IgnoreIO) = refl
+byte_kept i d _ = refl
 
 -- an insert leaves the operands, whatever its test says
 module _ (o : OpCode) (pos : ℕ) (t : Timing) where
@@ -77,34 +53,14 @@ module _ (o : OpCode) (pos : ℕ) (t : Timing) where
 
 -- what is neither H nor L, and an operand that is not replaced, stays
 half_kept : (i : Index) (r : Reg8) → is_half r ≡ false → half i r ≡ r
-half_kept i Reg8.A e = refl
-half_kept i Reg8.B e = refl
-half_kept i Reg8.C e = refl
-half_kept i Reg8.D e = refl
-half_kept i Reg8.E e = refl
 half_kept i Reg8.H e = absurd (true≢false e)
 half_kept i Reg8.L e = absurd (true≢false e)
-half_kept i Reg8.IXh e = refl
-half_kept i Reg8.IXl e = refl
-half_kept i Reg8.IYh e = refl
-half_kept i Reg8.IYl e = refl
-half_kept i Reg8.I e = refl
-half_kept i Reg8.R e = refl
+half_kept i _ e = refl
 
 hl_kept : (i : Index) (p : Place) → has_hl p ≡ false → replace_hl i p ≡ p
-hl_kept i Place.Empty e = refl
-hl_kept i (Place.Of (Operand.Imm8 x)) e = refl
-hl_kept i (Place.Of (Operand.Imm16 x)) e = refl
-hl_kept i (Place.Of (Operand.RelAddr x)) e = refl
-hl_kept i (Place.Of (Operand.Address x)) e = refl
-hl_kept i (Place.Of (Operand.IOAddress x)) e = refl
-hl_kept i (Place.Of (Operand.RegI x)) e = refl
 hl_kept i (Place.Of (Operand.Reg8 r)) e = ap (λ (x : Reg8). Place.Of (Operand.Reg8 x)) (half_kept i r e)
 hl_kept i (Place.Of (Operand.Reg16 q)) e = rw e refl
-hl_kept i (Place.Of (Operand.RegAddr q)) e = refl
-hl_kept i (Place.Of (Operand.RegIOAddr x)) e = refl
-hl_kept i (Place.Of (Operand.FlagCondition x)) e = refl
-hl_kept i (Place.Of Operand.IgnoreIO) e = refl
+hl_kept i _ e = refl
 
 -- operands that are replaced, as u and v tell; where u or v does not, x or y is what stands there
 records :
