@@ -1,5 +1,5 @@
 -- The line has room for the row, and the part of it that is given is the row's line itself.
-use Rattle.std.proofs.Common.{◌≡◌, ℕ, ◌-◌, ◌≤◌, Bool, cond, leb, List, ◌++◌, take, drop, length, refl, sym, ap}
+use Rattle.std.proofs.Common.{arith, ◌≡◌, ℕ, ◌-◌, ◌≤◌, Bool, cond, leb, List, ◌++◌, take, drop, length, refl, sym, ap}
 use mathlib.Core.Path.{◌∙◌}
 use Rattle.table.specs.declared.Mode.{Mode}
 use Rattle.table.specs.Consequences.{AllBytes}
@@ -33,7 +33,7 @@ slice_bounds-give-end c =
     let at = within c.args.image.now c.args.origin c.args.address size_is place_is in
     let room = fits c.args.mode c.args.image.now c.args.origin c.args.address (λ j. (c.type_inv.image j).fits) in
     let w = rw at.again at c.put_row-passed.ensures.wrote.wrote in
-    filled w room
+    omega (arith, filled w room)
 
 pub returns-then-give : goal.returns-then-give
 returns-then-give c =

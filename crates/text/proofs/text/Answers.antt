@@ -31,7 +31,7 @@ module _ {old line t : List ℕ} {n : ℕ} (w : Wrote old 0 t line n) (room : le
 pub slice_bounds-give-end : goal.slice_bounds-give-end
 slice_bounds-give-end c =
     let room = fits c.args.mode c.args.choice c.args.ins.now c.disas-decoded.result (λ j. (c.type_inv.ins j).fits) c.disas-decoded.ensures.answer c.in-Done.is in
-    filled c.put_text.ensures.wrote room
+    omega (arith, filled c.put_text.ensures.wrote room)
 
 pub returns-then-give : goal.returns-then-give
 returns-then-give c =
