@@ -1,21 +1,20 @@
--- A signed number is its sign and how far it is from zero. Assumes nothing.
-use mathlib.Core.Path.{◌≡◌, refl}
+-- What the test below zero says of a signed number, at any width: the bits of one below zero, turned over, are how far it is below -1. Assumes nothing.
+use mathlib.Core.Path.{◌≡◌, refl, ap, ◌∙◌}
 use mathlib.Core.Bool.{true, false, true≢false}
-use mathlib.Core.List.{◌∷◌}
+use Prim.Native.Nat.{◌-◌, ◌^◌, ◌<◌}
 use native.Mathlib.Omega.{arith}
-use lib.IntN.{ℤ, pos, negsuc, nat_abs}
-use lib.Signed.{lt_z}
+use lib.IntN.{ℤ, pos, negsuc}
+use lib.Signed.{mag, lt_z}
+use mir.Syntax.{Width}
+use mir.Val.{SFits, bits, hbits, to_z, of_z}
+use mir.ValLaws.{to_z_pos, to_z-neg, pow-bits}
 use borrow.Author.Tests.{ltb-true}
-use Rattle.wording.specs.Digits.{decimal, signed}
 
--- 45 is '-'
-pub minus : (z : ℤ) → lt_z z (pos 0) ≡ true → 45 ∷ decimal (nat_abs z) ≡ signed z
-unfolding signed
-minus (pos n) t = let h = ltb-true n 0 t in absurd (omega arith)
-minus (negsuc n) t = refl
+module _ (w : Width) where
+  pub below : (z : ℤ) → SFits w z → lt_z (to_z w (of_z w z)) (pos 0) ≡ true → (z ≡ negsuc (mag z)) × (to_z w (2 ^ bits w - 1 - of_z w z) ≡ pos (mag z)) × (mag z < 2 ^ hbits w)
+  below (pos n) f t = let h = ltb-true n 0 (rw (to_z_pos w n f.sfits) at t) in absurd (omega arith)
+  below (negsuc n) f t = (refl, ap (to_z w) (omega (arith, f.sfits, pow-bits w)) ∙ to_z_pos w n f.sfits, f.sfits)
 
--- 43 is '+'
-pub plus : (z : ℤ) → lt_z z (pos 0) ≡ false → 43 ∷ decimal (nat_abs z) ≡ signed z
-unfolding signed
-plus (pos n) t = refl
-plus (negsuc n) t = absurd (true≢false t)
+  pub above : (z : ℤ) → SFits w z → lt_z (to_z w (of_z w z)) (pos 0) ≡ false → (z ≡ pos (mag z)) × (to_z w (of_z w z) ≡ pos (mag z)) × (mag z < 2 ^ hbits w)
+  above (pos n) f t = (refl, to_z_pos w n f.sfits, f.sfits)
+  above (negsuc n) f t = absurd (true≢false (rw (to_z-neg w n f.sfits) at t))

@@ -1,4 +1,4 @@
-// Numbers as text, written to lent bytes.
+// Numbers as text, written to lent bytes. What is inlined always keeps the place of a text's writer in a register.
 #![tactic(auto)]
 
 ghost use Rattle.std.specs.Prelude.{◌≡◌, ◌<◌, nat_abs};
@@ -45,6 +45,7 @@ fn put_digit(out: &mut Writer, n: u16, p: u16)
 }
 
 // Decimal, with no zeros in front.
+#[inline(always)]
 pub fn put_decimal(out: &mut Writer, n: u16)
     ensures { Puts out.old (decimal n) out.new }
 {
@@ -55,6 +56,7 @@ pub fn put_decimal(out: &mut Writer, n: u16)
 }
 
 // Decimal, with its sign.
+#[inline(always)]
 pub fn put_signed(out: &mut Writer, n: i16)
     ensures { Puts out.old (signed n) out.new }
 {

@@ -1,4 +1,4 @@
-// The forms of operands.
+// The forms of operands. They are inlined always, which keeps the place of a text's writer in a register.
 #![tactic(auto)]
 
 ghost use Rattle.std.specs.Prelude.{◌++◌};
@@ -14,6 +14,7 @@ use opcode::registers::RegI;
 use writer::Writer;
 
 // (IX+5), (IY-128): the register's part, and what stands behind it.
+#[inline(always)]
 fn put_index(out: &mut Writer, register: &[u8], d: i8)
     ensures { Puts out.old (register.now ++ signed d ++ ascii ")") out.new }
 {
@@ -23,6 +24,7 @@ fn put_index(out: &mut Writer, register: &[u8], d: i8)
 }
 
 // What `inside` writes, in parentheses.
+#[inline(always)]
 fn put_parenthesized<F: FnOnce(&mut Writer)>(out: &mut Writer, inside: F)
     requires { F.IsAlwaysCallable inside }
     ensures { (t : _) → Writes F.FnOnce inside t → Puts out.old (ascii "(" ++ t ++ ascii ")") out.new }
@@ -32,6 +34,7 @@ fn put_parenthesized<F: FnOnce(&mut Writer)>(out: &mut Writer, inside: F)
     out.put(b')');
 }
 
+#[inline(always)]
 fn put_operand(out: &mut Writer, o: Operand)
     ensures { Puts out.old (operand_text o) out.new }
 {
@@ -53,6 +56,7 @@ fn put_operand(out: &mut Writer, o: Operand)
 }
 
 // A filled place, behind what stands before it.
+#[inline(always)]
 pub fn put_place(out: &mut Writer, before: &[u8], p: Place)
     ensures { Puts out.old (place_text before.now p) out.new }
 {

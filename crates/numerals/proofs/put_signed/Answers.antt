@@ -4,7 +4,7 @@ use mathlib.Core.Path.{◌≡◌}
 use mir.Facts.{to_z-of_z}
 use Rattle.wording.specs.Digits.{decimal, signed}
 use Rattle.writer.proofs.Laws.{◌⟫◌, put_told}
-use Rattle.numerals.proofs.Sign.{minus, plus}
+use Rattle.numerals.proofs.Spelt.{minus, plus}
 use Rattle.numerals.proofs.put_signed.Goals as goal
 use Rattle.numerals.proofs.put_signed.Goals.{then-n-lt0, else-n-lt0}
 

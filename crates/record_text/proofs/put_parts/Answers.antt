@@ -2,7 +2,7 @@
 use Rattle.std.proofs.Common.{rules}
 use Rattle.wording.specs.Text.{text_of}
 use Rattle.writer.proofs.Laws.{◌⟫◌}
-use Rattle.record_text.proofs.put_text.Goals as goal
+use Rattle.record_text.proofs.put_parts.Goals as goal
 
 pub returns : goal.returns
 unfolding text_of
