@@ -15,7 +15,7 @@ use opcode::timing::Timing;
 use owner::{Twice, extend_and_push, insert_and_remove};
 use std::io;
 use std::io::{Read, Write};
-use writer::{put, put_bytes};
+use writer::Writer;
 
 // A request: which owner, six T-states and a count for the record and for what is put in, and two numbers more.
 const REQUEST_SIZE: usize = 17;
@@ -69,36 +69,33 @@ fn edited(asked: u8, rec: OpCode, more: Timing, first: u8, second: u8) -> Twice
 }
 
 // Each byte as two digits, with what stands before and behind each.
-fn put_pairs(line: &mut [u8], at: usize, bytes: &[u8], before: &[u8], behind: &[u8]) -> usize {
-    let mut next = at;
+fn put_pairs(line: &mut Writer, bytes: &[u8], before: &[u8], behind: &[u8]) {
     for byte in bytes {
-        next = put_bytes(line, next, before);
-        next = put_hex8(line, next, *byte);
-        next = put_bytes(line, next, behind);
+        line.put_bytes(before);
+        put_hex8(line, *byte);
+        line.put_bytes(behind);
     }
-    next
 }
 
-fn put_answer(line: &mut [u8], at: usize, ok: bool) -> usize {
-    let next = put(line, at, b' ');
-    if ok {
-        return put(line, next, b'1');
-    }
-    put(line, next, b'0')
+fn put_answer(line: &mut Writer, ok: bool) {
+    line.put(b' ');
+    line.put(if ok { b'1' } else { b'0' });
 }
 
 // The request, what the edits say, and the record as they left it.
 fn write_line<W: Write>(output: &mut W, request: &[u8], left: Twice) -> io::Result<()> {
-    let mut line = [0u8; LINE_SIZE];
-    let rec = left.rec;
-    let bytes = layout(rec);
-    let mut at = put_pairs(&mut line, 0, request, b"", b" ");
-    at = put(&mut line, at, b'=');
-    at = put_answer(&mut line, at, left.first);
-    at = put_answer(&mut line, at, left.second);
-    at = put_pairs(&mut line, at, &bytes, b" ", b"");
-    put(&mut line, at, b'\n');
-    output.write_all(&line)
+    let mut buf = [0u8; LINE_SIZE];
+    let mut line = Writer {
+        buf: &mut buf,
+        at: 0,
+    };
+    put_pairs(&mut line, request, b"", b" ");
+    line.put(b'=');
+    put_answer(&mut line, left.first);
+    put_answer(&mut line, left.second);
+    put_pairs(&mut line, &layout(left.rec), b" ", b"");
+    line.put(b'\n');
+    output.write_all(&buf)
 }
 
 // A request is answered in one line.

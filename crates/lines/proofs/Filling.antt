@@ -15,7 +15,7 @@ use Rattle.writer.proofs.Laws.{◌▸◌, none, counted, whole}
 use Rattle.image.specs.Places.{window}
 use Rattle.listing.specs.Rows.{line_of, passed_of, Row, row_at, listing, printed, joined}
 use Rattle.listing.specs.Page.{page}
-use Rattle.listing.proofs.Passed.{passed_least, passed_within}
+use Rattle.listing.proofs.Passed.{passed_within}
 use Rattle.listing.proofs.Page.{page_next, page_full, page_none, page_some, passed_bytes}
 
 module _ (mode : Mode) where

@@ -2,7 +2,7 @@
 #![tactic(auto)]
 
 ghost use Rattle.std.specs.Prelude.{◌≡◌, ◌+◌, ◌<◌, leb, length, drop};
-ghost use Rattle.writer.specs.Wrote.{Wrote};
+ghost use Rattle.writer.specs.Puts.{Puts};
 ghost use Rattle.image.specs.Places.{window};
 ghost use Rattle.listing.specs.Rows.{line_of, passed_of};
 ghost use Rattle.listing.specs.Answers.{told_by, row_outcome};
@@ -13,20 +13,18 @@ use line::{LINE_MAX, passed, put_line};
 use listing::{Lines, ListingRefusal};
 use table::Mode;
 use window::decode_at;
-use writer::give;
+use writer::{Writer, give};
 
-// The row at a place of the image, its line behind the first `at` bytes: the count of the bytes then written, and those that the row passes.
-fn put_row(mode: Mode, image: &Image, place: usize, buf: &mut [u8], at: usize) -> Lines
+// The row at a place of the image: its line, and the bytes of the image that it passes.
+fn put_row(mode: Mode, image: &Image, place: usize, out: &mut Writer) -> usize
     requires { place < length image.now.bytes.now }
-    ensures wrote { Wrote buf.old at (line_of mode (image.now.origin + place) (window (drop place image.now.bytes.now))) buf.new result.count }
-    ensures passed { result.passed ≡ passed_of mode (window (drop place image.now.bytes.now)) }
+    ensures wrote { Puts out.old (line_of mode (image.now.origin + place) (window (drop place image.now.bytes.now))) out.new }
+    ensures passed { result ≡ passed_of mode (window (drop place image.now.bytes.now)) }
 {
     let decoded = decode_at(mode, image.bytes, place);
     let address = image.origin + place as u16;
-    Lines {
-        count: put_line(buf, at, address, decoded, image.bytes[place]),
-        passed: passed(decoded),
-    }
+    put_line(out, address, decoded, image.bytes[place]);
+    passed(decoded)
 }
 
 // The row at an address of the image, whose first byte stands at `origin`, in a mode: its line to the front of `out`. It is made
@@ -43,11 +41,16 @@ pub fn row(
     let image = Image::new(image, origin).ok_or(ListingRefusal::ImageSize)?;
     let place = image.place_of(address).ok_or(ListingRefusal::Nothing)?;
     let mut line = [0u8; LINE_MAX];
-    let lines = put_row(mode, &image, place, &mut line, 0);
-    if !give(&line[..lines.count], out) {
+    let mut writer = Writer {
+        buf: &mut line,
+        at: 0,
+    };
+    let passed = put_row(mode, &image, place, &mut writer);
+    let count = writer.at;
+    if !give(&writer.buf[..count], out) {
         return Err(ListingRefusal::NoRoom);
     }
-    Ok(lines)
+    Ok(Lines { count, passed })
 }
 
 // Whether the line of the row at a place has that much room; one that has room for the longest is not made for it.
@@ -59,8 +62,12 @@ fn has_room(mode: Mode, image: &Image, place: usize, room: usize) -> bool
         return true;
     }
     let mut line = [0u8; LINE_MAX];
-    let lines = put_row(mode, image, place, &mut line, 0);
-    lines.count <= room
+    let mut writer = Writer {
+        buf: &mut line,
+        at: 0,
+    };
+    put_row(mode, image, place, &mut writer);
+    writer.at <= room
 }
 
 // The rows from an address on, as many whole lines as fit: their lines to the front of `out`, one behind the other.
@@ -75,18 +82,16 @@ pub fn rows(
 {
     let image = Image::new(image, origin).ok_or(ListingRefusal::ImageSize)?;
     let start = image.place_of(address).ok_or(ListingRefusal::Nothing)?;
-    let mut count = 0;
+    let mut writer = Writer { buf: out, at: 0 };
     let mut place = start;
-    while place < image.bytes.len() && has_room(mode, &image, place, out.len() - count) {
-        let lines = put_row(mode, &image, place, out, count);
-        count = lines.count;
-        place += lines.passed;
+    while place < image.bytes.len() && has_room(mode, &image, place, writer.buf.len() - writer.at) {
+        place += put_row(mode, &image, place, &mut writer);
     }
     if place == start {
         return Err(ListingRefusal::NoRoom);
     }
     Ok(Lines {
-        count,
+        count: writer.at,
         passed: place - start,
     })
 }

@@ -10,7 +10,7 @@ use opcode::record::OpCode;
 use record_text::put_text;
 use table::{Answer, Decoded, Mode};
 use wording::TextRefusal;
-use writer::give;
+use writer::{Writer, give};
 
 // The largest choice: all three parts.
 const CHOICE_MAX: u8 = 7;
@@ -25,17 +25,20 @@ pub fn text(mode: Mode, choice: u8, ins: &[u8], out: &mut [u8]) -> Result<usize,
     }
     let Decoded { answer, rec } = disas(mode, ins);
     match answer {
-        Answer::Done => {
-            let mut line = [0u8; OpCode::TEXT_MAX];
-            let count = put_text(&mut line, 0, rec, choice);
-            if give(&line[..count], out) {
-                Ok(count)
-            } else {
-                Err(TextRefusal::NoRoom)
-            }
-        }
-        Answer::Nothing => Err(TextRefusal::Nothing),
-        Answer::Short(missing) => Err(TextRefusal::Short(missing)),
-        Answer::Long => Err(TextRefusal::Long),
+        Answer::Done => {}
+        Answer::Nothing => return Err(TextRefusal::Nothing),
+        Answer::Short(missing) => return Err(TextRefusal::Short(missing)),
+        Answer::Long => return Err(TextRefusal::Long),
     }
+    let mut line = [0u8; OpCode::TEXT_MAX];
+    let mut writer = Writer {
+        buf: &mut line,
+        at: 0,
+    };
+    put_text(&mut writer, rec, choice);
+    let count = writer.at;
+    if !give(&writer.buf[..count], out) {
+        return Err(TextRefusal::NoRoom);
+    }
+    Ok(count)
 }

@@ -7,6 +7,8 @@ use native.Mathlib.Omega.{arith}
 use lib.ListN.{length, set, take, drop}
 use lib.Seq.{take-append_seam}
 use Rattle.writer.specs.Wrote.{over, behind, Wrote}
+use Rattle.writer.specs.Puts.{Puts}
+use Rattle.writer.specs.declared.Writer.{Writer}
 
 over_one : (old : List ℕ) (i b : ℕ) → i < length old → (set old i b ≡ over old i (b ∷ [])) × (suc i ≡ behind old i (b ∷ []))
 over_one [] i b h = absurd (omega arith)
@@ -79,3 +81,17 @@ module _ {old t new : List ℕ} {j : ℕ} (p : Wrote old 0 t new j) (h : length 
 
   pub front : take j new ≡ t
   front = ap (take j) whole ∙ ap (λ (n : ℕ). take n (t ++ drop (length t) old)) counted ∙ take-append_seam t (drop (length t) old)
+
+  pub filled : j ≡ length (take j new)
+  filled = counted ∙ sym (ap length front)
+
+-- The same through a writer: nothing, and a text behind another.
+pub put_none : (w : Writer) → Puts w [] w
+put_none w = record { same = refl; wrote = none w.buf.now w.at }
+
+pub ◌⟫◌ : {a b d : Writer} {s t : List ℕ} → Puts a s b → Puts b t d → Puts a (s ++ t) d
+p ⟫ q = record { same = q.same ∙ p.same; wrote = p.wrote ▸ q.wrote }
+
+infixl 5 ◌⟫◌
+pub put_told : {a b : Writer} {s t : List ℕ} → s ≡ t → Puts a s b → Puts a t b
+put_told e p = rw (← e) p

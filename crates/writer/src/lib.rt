@@ -1,32 +1,36 @@
-// Writing to lent bytes. A function that is given a place `at` writes behind what stands before it, as far as there is room,
-// and gives the place behind what it wrote.
+// Writing to lent bytes: each text behind what stands before it, as far as there is room.
 #![tactic(auto)]
 
-ghost use Rattle.std.specs.Prelude.{◌≡◌, cond, [], ◌∷◌, ◌++◌, leb, length, drop};
-ghost use Rattle.writer.specs.Wrote.{Wrote};
+ghost use Rattle.std.specs.Prelude.{◌≡◌, cond, [], ◌∷◌, leb, length, drop, ◌++◌};
 
-// One byte.
-pub fn put(buf: &mut [u8], at: usize, b: u8) -> usize
-    ensures { Wrote buf.old at (b ∷ []) buf.new result }
-{
-    if buf.len() <= at {
-        return at;
-    }
-    buf[at] = b;
-    at + 1
+// Lent bytes, and the place in them behind what is written.
+#[derive(Drop)]
+pub struct Writer<'a> {
+    pub buf: &'a mut [u8],
+    pub at: usize,
 }
 
-// Every byte of `s`.
-pub fn put_bytes(buf: &mut [u8], at: usize, s: &[u8]) -> usize
-    ensures { Wrote buf.old at s.now buf.new result }
-{
-    let mut next = at;
-    let mut i = 0;
-    while i < s.len() {
-        next = put(buf, next, s[i]);
-        i += 1;
+impl<'a> Writer<'a> {
+    ghost use Rattle.writer.specs.Puts.{Puts};
+
+    // One byte.
+    pub fn put(&mut self, b: u8)
+        ensures { Puts self.old (b ∷ []) self.new }
+    {
+        if self.at < self.buf.len() {
+            self.buf[self.at] = b;
+            self.at += 1;
+        }
     }
-    next
+
+    // Every byte of `s`.
+    pub fn put_bytes(&mut self, s: &[u8])
+        ensures { Puts self.old s.now self.new }
+    {
+        for b in s {
+            self.put(*b);
+        }
+    }
 }
 
 // A whole text to the front of lent bytes, or nothing where it does not fit; says which.

@@ -1,5 +1,5 @@
 -- The rows pass some bytes, and no more than the image has from their place on.
-use Rattle.std.proofs.Common.{arith, ◌≤◌, ◌-◌, length, drop, length-drop, refl}
+use Rattle.std.proofs.Common.{arith, ◌-◌, length-drop, refl}
 use Rattle.table.specs.declared.Mode.{Mode}
 use Rattle.listing.proofs.Page.{rows_passed, rows_some}
 use Rattle.list.proofs.print.Goals as goal

@@ -1,11 +1,14 @@
 -- One element more, where each has its text. Assumes nothing.
 use mathlib.Core.Path.{◌≡◌, sym, ap, ◌∙◌}
 use mathlib.Core.List.{List, [], ◌∷◌, ◌++◌, append_assoc, append-nil}
-use Prim.Native.Nat.{ℕ, zero, suc, ◌+◌, ◌-◌, ◌≤◌, ◌<◌}
-use native.Mathlib.Omega.{arith}
-use lib.ListN.{length, take, drop, get_or}
+use Prim.Native.Nat.{ℕ, suc, ◌+◌, ◌<◌}
+use native.Mathlib.Numerals.{add-one}
+use lib.ListN.{length, take, get_or}
 use lib.Seq.{take-suc}
 use Rattle.wording.specs.Text.{each}
+use Rattle.writer.specs.declared.Writer.{Writer}
+use Rattle.writer.specs.Puts.{Puts}
+use Rattle.writer.proofs.Laws.{◌⟫◌, put_told}
 
 module _ {A : Type 0} (f : A → List ℕ) where
   each_last : (xs : List A) (x : A) → each f (xs ++ (x ∷ [])) ≡ each f xs ++ f x
@@ -15,11 +18,6 @@ module _ {A : Type 0} (f : A → List ℕ) where
   pub each_more : (xs : List A) (i : ℕ) (d : A) → i < length xs → each f (take i xs) ++ f (get_or xs i d) ≡ each f (take (suc i) xs)
   each_more xs i d h = sym (ap (each f) (take-suc xs i d h) ∙ each_last (take i xs) (get_or xs i d))
 
-  -- the same behind the first element
-  pub each_next : (xs : List A) (i : ℕ) (d : A) → 1 ≤ i → i < length xs → each f (take (i - 1) (drop 1 xs)) ++ f (get_or xs i d) ≡ each f (take (i + 1 - 1) (drop 1 xs))
-  each_next [] i d some h = absurd (omega arith)
-  each_next (a ∷ xs) zero d some h = absurd (omega arith)
-  each_next (a ∷ xs) (suc i) d some h =
-      let e : suc i - 1 ≡ i = omega arith in
-      let e' : suc i + 1 - 1 ≡ suc i = omega arith in
-      rw (e, e') (each_more xs i d (omega arith))
+  -- a loop that writes the text of each element has written those of one more
+  pub each_turn : {a b w : Writer} (xs : List A) (i : ℕ) (d : A) → i < length xs → Puts w (each f (take i xs)) a → Puts a (f (get_or xs i d)) b → Puts w (each f (take (i + 1) xs)) b
+  each_turn xs i d h p q = rw add-one (put_told (each_more xs i d h) (p ⟫ q))
