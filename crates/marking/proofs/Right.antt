@@ -2,14 +2,14 @@
 use Prim.Native.Nat.{ℕ, ◌+◌, ◌-◌, ◌%◌, ◌≤◌, ◌<◌}
 use native.Mathlib.Omega.{arith}
 use mathlib.Core.Path.{◌≡◌, refl, ap, ◌∙◌}
-use mathlib.Core.Bool.{Bool, true, not, ◌||◌, or-true}
+use mathlib.Core.Bool.{Bool, true, not}
 use mathlib.Core.List.{List}
-use mathlib.Core.Logic.{◌⊎◌, inl, inr, ⊎_elim}
+use mathlib.Core.Logic.{inl, inr, ⊎_elim}
 use lib.Dec.{eqb, ltb}
 use lib.ListN.{length, get_or}
 use Rattle.std.specs.Prelude.{Option, None, Some as just}
 use Rattle.std.specs.List.{position_or_len}
-use Rattle.std.proofs.lemmas.Bool.{both_ways, cases_Bool, cases_lt, ltb-true, ltb-false, eqb-true, eqb-false, not-true, not-false, lt-ltb, eq-eqb, cond_both}
+use Rattle.std.proofs.lemmas.Bool.{both_ways, cases_lt, ltb-true, ltb-false, eqb-true, eqb-false, not-true, not-false, lt-ltb, eq-eqb, cond_both, or_left, or_right, or_cases}
 use Rattle.std.proofs.lemmas.List.Sums.{prefix_len_passes, prefix_len_stops}
 use Rattle.std.proofs.lemmas.List.Folds.{find_at}
 use Rattle.std.proofs.lemmas.Option.{slice_get-get_or, slice_get_past}
@@ -22,27 +22,26 @@ use Rattle.marking.proofs.Passing.{PassRight, first_broken_lem}
 
 -- 5: the test and the rule
 size_is : (m : Chart) → ImageSize m → wrong_size m.image m.origin ≡ true
-size_is m (inl none) = rw (eq-eqb (length m.image) 0 none) refl
-size_is m (inr far) = rw (lt-ltb 65536 (m.origin + length m.image) far) (or-true (eqb (length m.image) 0))
+size_is m (inl none) = or_left _ _ (eq-eqb (length m.image) 0 none)
+size_is m (inr far) = or_right _ _ (lt-ltb 65536 (m.origin + length m.image) far)
 
 size_true : (m : Chart) → wrong_size m.image m.origin ≡ true → ImageSize m
 size_true m e =
-    ⊎_elim (λ t. inl (eqb-true (length m.image) 0 t)) (λ t. inr (ltb-true 65536 (m.origin + length m.image) (rw t at e)))
-    (cases_Bool (eqb (length m.image) 0))
+    ⊎_elim (λ t. inl (eqb-true (length m.image) 0 t)) (λ t. inr (ltb-true 65536 (m.origin + length m.image) t)) (or_cases _ _ e)
 
 -- 7: the test and the rule
 count_is : (es : List ℕ) → EntryCount es → wrong_count es ≡ true
 unfolding wrong_count
-count_is es (inl none) = rw (eq-eqb (entries es) 0 none) refl
-count_is es (inr (inl more)) = rw (lt-ltb 256 (entries es) more) (or-true (eqb (entries es) 0))
-count_is es (inr (inr half)) = rw (eq-eqb (length es % 2) 1 half, or-true (ltb 256 (entries es))) (or-true (eqb (entries es) 0))
+count_is es (inl none) = or_left _ _ (eq-eqb (entries es) 0 none)
+count_is es (inr (inl more)) = or_right _ _ (or_left _ _ (lt-ltb 256 (entries es) more))
+count_is es (inr (inr half)) = or_right _ _ (or_right _ _ (eq-eqb (length es % 2) 1 half))
 
 count_true : (es : List ℕ) → wrong_count es ≡ true → EntryCount es
 unfolding wrong_count
-count_true es e = ⊎_elim (λ t. inl (eqb-true (entries es) 0 t)) (λ t. inr (some (rw t at e))) (cases_Bool (eqb (entries es) 0))
-  where
-    some : (ltb 256 (entries es) || eqb (length es % 2) 1) ≡ true → (256 < entries es) ⊎ (length es % 2 ≡ 1)
-    some e = ⊎_elim (λ t. inl (ltb-true 256 (entries es) t)) (λ t. inr (eqb-true (length es % 2) 1 (rw t at e))) (cases_Bool (ltb 256 (entries es)))
+count_true es e =
+    ⊎_elim (λ t. inl (eqb-true (entries es) 0 t))
+    (λ t. inr (⊎_elim (λ u. inl (ltb-true 256 (entries es) u)) (λ u. inr (eqb-true (length es % 2) 1 u)) (or_cases _ _ t)))
+    (or_cases _ _ e)
 
 module _ (look : Look) (sane : Sane look) (m : Chart) (es : List ℕ) where
   -- the answer x is the one that the rules name
