@@ -1,5 +1,5 @@
 -- The laws of writing behind a place. Assumes nothing.
-use mathlib.Core.Path.{◌≡◌, refl, sym, ap, subst, ◌∙◌}
+use mathlib.Core.Path.{◌≡◌, refl, sym, ap, ◌∙◌}
 use mathlib.Core.List.{List, [], ◌∷◌, ◌++◌}
 use Prim.Native.Nat.{ℕ, zero, suc, ◌+◌, ◌≤◌, ◌<◌}
 use native.Mathlib.Numerals.{add-one}
@@ -64,10 +64,6 @@ pub ◌▸◌ : {a b d : List ℕ} {i j k : ℕ} {s t : List ℕ} → Wrote a i 
     }
 
 infixl 5 ◌▸◌
--- the same text, told otherwise
-pub told : {old new : List ℕ} {i j : ℕ} {s t : List ℕ} → s ≡ t → Wrote old i s new j → Wrote old i t new j
-told {old} {new} {i} {j} e p = subst (λ (t : List ℕ). Wrote old i t new j) e p
-
 pub size : {old new t : List ℕ} {i j : ℕ} → Wrote old i t new j → length new ≡ length old
 size {old} {new} {t} {i} p = ap length p.bytes ∙ over_length old i t
 
@@ -93,5 +89,6 @@ pub ◌⟫◌ : {a b d : Writer} {s t : List ℕ} → Puts a s b → Puts b t d 
 p ⟫ q = record { same = q.same ∙ p.same; wrote = p.wrote ▸ q.wrote }
 
 infixl 5 ◌⟫◌
+-- the same text, told otherwise
 pub put_told : {a b : Writer} {s t : List ℕ} → s ≡ t → Puts a s b → Puts a t b
 put_told e p = rw (← e) p

@@ -1,7 +1,7 @@
 -- A text written through a writer. Definitions only.
 use Rattle.std.specs.Prelude.{ℕ, ◌≡◌, List}
 use Rattle.std.specs.Borrow.{MutBor}
-use denote.Param.Members.{Once}
+use Rattle.std.specs.Fn.{Once}
 use Rattle.writer.specs.declared.Writer.{Writer}
 use Rattle.writer.specs.Wrote.{Wrote}
 
