@@ -17,7 +17,8 @@ fits mode choice ins d bytes e done = rw e (any_most choice mode ins bytes (rw e
 
 pub slice_bounds-give-end : goal.slice_bounds-give-end
 slice_bounds-give-end c =
-    filled c.put_text.ensures.wrote (fits c.args.mode c.args.choice c.args.ins.now c.disas-answer.result (λ j. (c.type_inv.ins j).fits) c.disas-answer.ensures.answer c.in-Done.is)
+    let room = fits c.args.mode c.args.choice c.args.ins.now c.disas-answer.result (λ j. (c.type_inv.ins j).fits) c.disas-answer.ensures.answer c.in-Done.is in
+    omega (arith, filled c.put_text.ensures.wrote room)
 
 pub returns : goal.returns
 returns c =
