@@ -1,5 +1,5 @@
 -- The line has room for the row, and the part of it that is given is the row's line itself.
-use Rattle.std.proofs.Common.{refl}
+use Rattle.std.proofs.Common.{arith, refl}
 use Rattle.writer.proofs.Laws.{counted, filled}
 use Rattle.writer.proofs.Given.{whether, becomes}
 use Rattle.image.proofs.Placed.{placed}
@@ -7,7 +7,7 @@ use Rattle.lines.proofs.Fits.{fits}
 use Rattle.lines.proofs.row.Goals as goal
 
 pub slice_bounds-give-end : goal.slice_bounds-give-end
-slice_bounds-give-end c = filled c.put_row-passed.ensures.wrote.wrote (fits c.args.mode c.in_ok-image.image c.in_ok-place.place)
+slice_bounds-give-end c = omega (arith, filled c.put_row-passed.ensures.wrote.wrote (fits c.args.mode c.in_ok-image.image c.in_ok-place.place))
 
 pub returns-then-not-give : goal.returns-then-not-give
 returns-then-not-give c =
