@@ -85,7 +85,8 @@ pub fn rows(
     let mut writer = Writer { buf: out, at: 0 };
     let mut place = start;
     while place < image.bytes.len() && has_room(mode, &image, place, writer.buf.len() - writer.at) {
-        place += put_row(mode, &image, place, &mut writer);
+        let passed = put_row(mode, &image, place, &mut writer);
+        place += passed;
     }
     if place == start {
         return Err(ListingRefusal::NoRoom);

@@ -26,11 +26,11 @@ overflow_sub-writer c = let f = c.loop-place.invariant.1 in omega (arith, counte
 pub overflow_add-place : goal.overflow_add-place
 overflow_add-place c =
     let i = c.in_ok-image.image in
-    record { fits = omega (arith, c.put_row-place.ensures.passed, passed_most c.args.mode (window (drop c.loop-place.place i.bytes.now)), c.loop-place-test.true, i.fits) }
+    record { fits = omega (arith, c.put_row-passed.ensures.passed, passed_most c.args.mode (window (drop c.loop-place.place i.bytes.now)), c.loop-place-test.true, i.fits) }
 
 pub loop-place-smaller : goal.loop-place-smaller
 loop-place-smaller c =
-    omega (arith, c.put_row-place.ensures.passed, passed_least c.args.mode (window (drop c.loop-place.place c.in_ok-image.image.bytes.now)), c.loop-place-test.true)
+    omega (arith, c.put_row-passed.ensures.passed, passed_least c.args.mode (window (drop c.loop-place.place c.in_ok-image.image.bytes.now)), c.loop-place-test.true)
 
 pub loop-place-preserved : goal.loop-place-preserved
 loop-place-preserved c =
@@ -38,8 +38,8 @@ loop-place-preserved c =
     let w = c.loop-place.writer in
     let room = leb-true _ (length w.buf.now - w.at) (sym c.has_room.ensures ∙ c.if-has_room.true) in
     let f = c.loop-place.invariant.1 in
-    let more = goes_on c.args.mode i.bytes.now i.origin c.in_ok-start.start c.args.out.now f c.loop-place-test.true (omega (arith, room, size f.wrote)) c.put_row-place.ensures.passed c.put_row-place.ensures.wrote.wrote in
-    (c.put_row-place.ensures.wrote.same ∙ c.loop-place.invariant.0, more)
+    let more = goes_on c.args.mode i.bytes.now i.origin c.in_ok-start.start c.args.out.now f c.loop-place-test.true (omega (arith, room, size f.wrote)) c.put_row-passed.ensures.passed c.put_row-passed.ensures.wrote.wrote in
+    (c.put_row-passed.ensures.wrote.same ∙ c.loop-place.invariant.0, more)
 
 pub returns-then-place-start : goal.returns-then-place-start
 returns-then-place-start c =
