@@ -17,7 +17,6 @@ use std::io::{Read, Write};
 use std::{array, io};
 use writer::Writer;
 
-// A request: which owner, six T-states and a count for the record and for what is put in, and two numbers more.
 const REQUEST_SIZE: usize = 17;
 
 // A line: three bytes for each of the request's, five for = and the two answers, three for each of the record's 24, and LF.
@@ -30,6 +29,47 @@ fn timing(b: &[u8]) -> Timing
     Timing {
         tstates: array::from_fn(|i| TStates(b[i])),
         mcycles: MCycles(b[6]),
+    }
+}
+
+// The edits that are asked for, the T-states that the record has and those that are put in, and two numbers more.
+#[derive(Clone, Copy)]
+struct Request {
+    asked: u8,
+    held: Timing,
+    more: Timing,
+    first: u8,
+    second: u8,
+}
+
+impl Request {
+    // By its 17 bytes.
+    fn new(bytes: &[u8]) -> Request
+        requires { length bytes.now ≡ 17 }
+    {
+        Request {
+            asked: bytes[0],
+            held: timing(&bytes[1..8]),
+            more: timing(&bytes[8..15]),
+            first: bytes[15],
+            second: bytes[16],
+        }
+    }
+
+    // What the edits leave of a record: 0 asks for extend and push, another number for insert and remove.
+    fn edited(self, rec: OpCode) -> Twice
+        ensures { result ≡ edits_of self.asked rec self.more self.first self.second }
+    {
+        let Request {
+            more,
+            first,
+            second,
+            ..
+        } = self;
+        match self.asked {
+            0 => extend_and_push(rec, more, TStates(first)),
+            _ => insert_and_remove(rec, usize::from(first), more, usize::from(second)),
+        }
     }
 }
 
@@ -47,16 +87,6 @@ fn record(held: Timing) -> OpCode {
         mcycles,
         least: RowTime(17),
         most: RowTime(19),
-    }
-}
-
-// The edits that are asked for: 0 is extend and push, another number insert and remove.
-fn edited(asked: u8, rec: OpCode, more: Timing, first: u8, second: u8) -> Twice
-    ensures { result ≡ edits_of asked rec more first second }
-{
-    match asked {
-        0 => extend_and_push(rec, more, TStates(first)),
-        _ => insert_and_remove(rec, first as usize, more, second as usize),
     }
 }
 
@@ -91,13 +121,11 @@ fn write_line<W: Write>(output: &mut W, request: &[u8], left: Twice) -> io::Resu
 }
 
 // A request is answered in one line.
-fn answer<W: Write>(output: &mut W, r: &[u8]) -> io::Result<()>
-    requires { length r.now ≡ 17 }
+fn answer<W: Write>(output: &mut W, bytes: &[u8]) -> io::Result<()>
+    requires { length bytes.now ≡ 17 }
 {
-    let held = timing(&r[1..8]);
-    let more = timing(&r[8..15]);
-    let left = edited(r[0], record(held), more, r[15], r[16]);
-    write_line(output, r, left)
+    let request = Request::new(bytes);
+    write_line(output, bytes, request.edited(record(request.held)))
 }
 
 // As many bytes of requests as are read.

@@ -4,12 +4,12 @@ ghost use Rattle.table.specs.Chip.{decode_in};
 ghost use Rattle.exports.specs.Modes.{bad_mode, mode_of};
 ghost use Rattle.exports.specs.Record.{outcome, record_outcome};
 
-use super::modes::{BAD_MODE, mode_from};
+use super::modes::BAD_MODE;
 use answers::decodes::{missing as missing_of, number};
 use disas::find;
 use layout::{SIZE, layout, layout_row};
 use opcode::record::OpCode;
-use table::Answer;
+use table::{Answer, Mode};
 
 // Writes a record to the front of `out`, if 24 bytes are lent; says whether they are.
 fn put(bytes: [u8; SIZE], out: &mut [u8]) -> bool
@@ -27,7 +27,7 @@ fn put(bytes: [u8; SIZE], out: &mut [u8]) -> bool
 pub fn z80_record(mode: u8, ins: &[u8], out: &mut [u8], missing: &mut u32) -> u8
     ensures { outcome result missing.new out.new ≡ cond (bad_mode mode) (outcome 35 0 out.old) (record_outcome (decode_in (mode_of mode) ins.now) out.old) }
 {
-    let Some(mode) = mode_from(mode) else {
+    let Ok(mode) = Mode::try_from(mode) else {
         *missing = 0;
         return BAD_MODE;
     };

@@ -4,8 +4,9 @@ ghost use Rattle.table.specs.Chip.{decode_in};
 ghost use Rattle.exports.specs.Modes.{bad_mode, mode_of};
 ghost use Rattle.wording.specs.Answers.{outcome, text_outcome};
 
-use super::modes::{BAD_MODE, mode_from};
+use super::modes::BAD_MODE;
 use answers::texts::tell;
+use table::Mode;
 use text::text;
 
 // The chosen parts of the text of `ins`, decoded in a mode, to the front of `out`, their count, and how many bytes are missing where the decode is
@@ -20,7 +21,7 @@ pub fn z80_text(
 ) -> u8
     ensures { outcome result count.new missing.new out.new ≡ cond (bad_mode mode) (outcome 35 0 0 out.old) (text_outcome choice (decode_in (mode_of mode) ins.now) out.old) }
 {
-    let Some(mode) = mode_from(mode) else {
+    let Ok(mode) = Mode::try_from(mode) else {
         *count = 0;
         *missing = 0;
         return BAD_MODE;

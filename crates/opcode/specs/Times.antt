@@ -10,6 +10,18 @@ use Rattle.opcode.specs.declared.record.OpCode.{OpCode}
 use Rattle.opcode.specs.declared.times.Span.{Span}
 use Rattle.opcode.specs.Record.{sum}
 
+-- the eight that repeat themselves
+abbrev pub repeats : Instruction → Bool
+repeats LDIR = true
+repeats LDDR = true
+repeats CPIR = true
+repeats CPDR = true
+repeats INIR = true
+repeats INDR = true
+repeats OTIR = true
+repeats OTDR = true
+repeats _ = false
+
 -- JR cc, DJNZ, CALL cc and RET cc have a quick way through, the eight repeat themselves
 abbrev pub pace_of : Instruction → Pace
 pace_of JR = Pace.ShorterIf 7

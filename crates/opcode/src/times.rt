@@ -15,14 +15,7 @@ fn pace(ins: Instruction) -> Pace
         Instruction::DJNZ => Pace::Shorter(8),
         Instruction::CALL => Pace::ShorterIf(10),
         Instruction::RET => Pace::ShorterIf(5),
-        Instruction::LDIR
-        | Instruction::LDDR
-        | Instruction::CPIR
-        | Instruction::CPDR
-        | Instruction::INIR
-        | Instruction::INDR
-        | Instruction::OTIR
-        | Instruction::OTDR => Pace::Repeats,
+        _ if ins.repeats() => Pace::Repeats,
         _ => Pace::Steady,
     }
 }

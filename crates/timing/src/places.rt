@@ -45,7 +45,7 @@ pub(crate) fn may_extend(m: usize, n: usize) -> bool
     m <= OpCode::PLACES && n <= OpCode::PLACES - m
 }
 
-// Is there, and is pos one of the filled ones or the next?
+// Is there room for n more than the m filled ones, and is pos one of these or the next?
 #[tactic(auto, unfolding(opcode::specs::Timing::may_insert, opcode::specs::Timing::may_extend))]
 pub(crate) fn may_insert(m: usize, pos: usize, n: usize) -> bool
     ensures rule { result ≡ may_insert m pos n }

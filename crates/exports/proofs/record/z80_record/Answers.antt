@@ -30,18 +30,15 @@ told Refusal.Long false x y = refl
 
 pub returns-then-room : goal.returns-then-room
 returns-then-room c =
-    let mode = sym c.in-Some.ensures.refused in
-    let said = found_told c.in-Some.mode c.args.ins.now (Ok c.in-Ok.f) (λ k. (c.type_inv.ins k).fits) c.in-Ok.ensures in
-    rw (mode, ← c.in-Some.ensures.made, ← said, c.put-room.ensures.written, c.layout_row.ensures) (row_room _ _ _ (sym c.put-room.ensures.room ∙ c.if-room.true))
+    let said = found_told c.in-Ok.mode c.args.ins.now (Ok c.in-Ok-find.f) (λ k. (c.type_inv.ins k).fits) c.in-Ok-find.ensures in
+    rw (c.in-Ok.ensures.0, ← c.in-Ok.ensures.1, ← said, c.put-room.ensures.written, c.layout_row.ensures) (row_room _ _ _ (sym c.put-room.ensures.room ∙ c.if-room.true))
 
 pub returns-else-room : goal.returns-else-room
 returns-else-room c =
-    let mode = sym c.in-Some.ensures.refused in
-    let said = found_told c.in-Some.mode c.args.ins.now (Ok c.in-Ok.f) (λ k. (c.type_inv.ins k).fits) c.in-Ok.ensures in
-    rw (mode, ← c.in-Some.ensures.made, ← said, c.put-room.ensures.written, c.layout_row.ensures) (row_no_room _ _ _ (sym c.put-room.ensures.room ∙ c.if-room.false))
+    let said = found_told c.in-Ok.mode c.args.ins.now (Ok c.in-Ok-find.f) (λ k. (c.type_inv.ins k).fits) c.in-Ok-find.ensures in
+    rw (c.in-Ok.ensures.0, ← c.in-Ok.ensures.1, ← said, c.put-room.ensures.written, c.layout_row.ensures) (row_no_room _ _ _ (sym c.put-room.ensures.room ∙ c.if-room.false))
 
 pub returns-in-Err : goal.returns-in-Err
 returns-in-Err c =
-    let mode = sym c.in-Some.ensures.refused in
-    let said = found_told c.in-Some.mode c.args.ins.now (Err c.in-Err.refusal) (λ k. (c.type_inv.ins k).fits) c.in-Err.ensures in
-    rw (mode, ← c.in-Some.ensures.made, ← said, c.number.ensures, c.from.ensures, c.missing.ensures, c.from-answer.ensures, c.put.ensures.written, c.layout.ensures, c.new.ensures) (told c.in-Err.refusal _ _ _)
+    let said = found_told c.in-Ok.mode c.args.ins.now (Err c.in-Err.refusal) (λ k. (c.type_inv.ins k).fits) c.in-Err.ensures in
+    rw (c.in-Ok.ensures.0, ← c.in-Ok.ensures.1, ← said, c.number.ensures, c.from.ensures, c.missing.ensures, c.from-answer.ensures, c.put.ensures.written, c.layout.ensures, c.new.ensures) (told c.in-Err.refusal _ _ _)
