@@ -31,13 +31,13 @@ told Refusal.Long false x y = refl
 pub returns-then-room : goal.returns-then-room
 returns-then-room c =
     let mode = sym c.in-Some.ensures.refused in
-    let said = found_told c.in-Some.mode c.args.ins.now (Ok c.in-Ok.f) (λ k. (c.type_inv.ins k).fits) c.in-Ok.ensures in
+    let said = found_told c.in-Some.mode c.args.ins.now (Ok c.in-Ok.found) (λ k. (c.type_inv.ins k).fits) c.in-Ok.ensures in
     rw (mode, ← c.in-Some.ensures.made, ← said, c.put-room.ensures.written, c.layout_row.ensures) (row_room _ _ _ (sym c.put-room.ensures.room ∙ c.if-room.true))
 
 pub returns-else-room : goal.returns-else-room
 returns-else-room c =
     let mode = sym c.in-Some.ensures.refused in
-    let said = found_told c.in-Some.mode c.args.ins.now (Ok c.in-Ok.f) (λ k. (c.type_inv.ins k).fits) c.in-Ok.ensures in
+    let said = found_told c.in-Some.mode c.args.ins.now (Ok c.in-Ok.found) (λ k. (c.type_inv.ins k).fits) c.in-Ok.ensures in
     rw (mode, ← c.in-Some.ensures.made, ← said, c.put-room.ensures.written, c.layout_row.ensures) (row_no_room _ _ _ (sym c.put-room.ensures.room ∙ c.if-room.false))
 
 pub returns-in-Err : goal.returns-in-Err
