@@ -32,9 +32,9 @@ pub fn z80_record(mode: u8, ins: &[u8], out: &mut [u8], missing: &mut u32) -> u8
         return BAD_MODE;
     };
     match find(mode, ins) {
-        Ok(f) => {
+        Ok(found) => {
             *missing = 0;
-            let room = put(layout_row(f.row, f.lo, f.hi, f.data), out);
+            let room = put(layout_row(found), out);
             if room { 0 } else { 4 }
         }
         Err(refusal) => {

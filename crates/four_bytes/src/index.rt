@@ -3,13 +3,14 @@ ghost use Rattle.std.specs.Prelude.{◌≡◌, ◌≤◌, ◌+◌};
 ghost use Rattle.table.specs.Steps.{named};
 ghost use Rattle.four_bytes.specs.Replaced.{addr_replaced, hl_replaced, operands_replaced, addr_record, hl_record, lengthened, loaded, replaced};
 
+use from_bytes::by_prefix;
 use opcode::counts::Bytes;
 use opcode::operand::{Operand, Place};
 use opcode::record::OpCode;
 use opcode::registers::{Reg8, Reg16};
 use opcode::timing::Timing;
 use stage::cycles::cycles;
-use stage::operands::{by_prefix, index_addr};
+use stage::operands::index_addr;
 use stage::rows::{Stage, pass};
 use std::ops::ControlFlow;
 use timing::{tstates_insert, tstates_remove};

@@ -1,10 +1,12 @@
 // Numbers from bytes, and what is asked of the bytes of an input.
 #![tactic(auto)]
 
-ghost use Rattle.std.specs.Prelude.{◌≡◌, [], ◌∷◌, get_or};
+ghost use Rattle.std.specs.Prelude.{◌≡◌, ◌==◌, cond, [], ◌∷◌, get_or};
 ghost use Rattle.table.specs.Decode.{is_prefix, four};
 ghost use Rattle.table.specs.Signed.{signed_of, relative_of};
 ghost use Rattle.table.specs.Row.{word_of};
+
+use std::array;
 
 // A displacement: the byte in two's complement, -128 to 127.
 #[tactic(auto, unfolding(table::specs::Signed::signed_of))]
@@ -40,6 +42,13 @@ pub fn is_prefix(b: u8) -> bool
     matches!(b, 0xDD | 0xFD)
 }
 
+// The one behind DD, the other behind FD
+pub fn by_prefix<T: Drop>(prefix: u8, dd: T, fd: T) -> T
+    ensures { result ≡ cond (prefix == 0xDD) dd fd }
+{
+    if prefix == 0xDD { dd } else { fd }
+}
+
 // The byte at k, and zero past the end.
 pub fn byte_at(ins: &[u8], k: usize) -> u8
     ensures { result ≡ get_or ins.now k 0 }
@@ -51,10 +60,5 @@ pub fn byte_at(ins: &[u8], k: usize) -> u8
 pub fn ins_to_data(ins: &[u8]) -> [u8; 4]
     ensures { result ≡ four ins.now }
 {
-    [
-        byte_at(ins, 0),
-        byte_at(ins, 1),
-        byte_at(ins, 2),
-        byte_at(ins, 3),
-    ]
+    array::from_fn(|k| byte_at(ins, k))
 }

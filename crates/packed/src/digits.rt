@@ -3,6 +3,8 @@ ghost use Rattle.std.specs.Prelude.{◌≡◌, ◌/◌, ◌%◌, [], ◌∷◌};
 ghost use Rattle.packed.specs.Digits.{digit_at};
 ghost use Rattle.packed.specs.Packed.{cycle_digits};
 
+use std::array;
+
 // The hex digit of a number at a place, counted from its end, sixteen being the first again.
 #[tactic(auto, unfolding(crate::specs::Digits::digit_at))]
 pub fn digit(n: u64, place: u8) -> u8
@@ -44,15 +46,9 @@ pub fn mcycles(row: u64) -> u8
 }
 
 // The six T-states, the first one highest.
+#[tactic(auto, unfolding(crate::specs::Digits::digit_at))]
 pub fn states(row: u64) -> [u8; 6]
     ensures { result ≡ cycle_digits row }
 {
-    [
-        (row / 0x100000_00_00_00_00_00 % 16) as u8,
-        (row / 0x010000_00_00_00_00_00 % 16) as u8,
-        (row / 0x001000_00_00_00_00_00 % 16) as u8,
-        (row / 0x000100_00_00_00_00_00 % 16) as u8,
-        (row / 0x000010_00_00_00_00_00 % 16) as u8,
-        (row / 0x000001_00_00_00_00_00 % 16) as u8,
-    ]
+    array::from_fn(|k| digit(row, 15 - k as u8))
 }

@@ -5,6 +5,7 @@ ghost use Rattle.packed.specs.Packed.{states_from, span_from};
 ghost use Rattle.packed.specs.Paces.{paces_of, pace_digit, quick_of, least_for, most_for};
 
 use super::digits::{digit, instruction, kinds, states};
+use super::named::instruction_or_last;
 use opcode::counts::RowTime;
 use opcode::times::Span;
 
@@ -26,7 +27,7 @@ fn paces(part: u8) -> u64
 fn pace(n: u8) -> u8
     ensures { result ≡ pace_digit n }
 {
-    let ins = n.min(67);
+    let ins = instruction_or_last(n);
     digit(paces(ins / 16 % 4), ins % 16)
 }
 

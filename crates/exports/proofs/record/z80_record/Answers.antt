@@ -30,12 +30,12 @@ told Refusal.Long false x y = refl
 
 pub returns-then-room : goal.returns-then-room
 returns-then-room c =
-    let said = found_told c.in-Ok.mode c.args.ins.now (Ok c.in-Ok-find.f) (λ k. (c.type_inv.ins k).fits) c.in-Ok-find.ensures in
+    let said = found_told c.in-Ok.mode c.args.ins.now (Ok c.in-Ok-find.found) (λ k. (c.type_inv.ins k).fits) c.in-Ok-find.ensures in
     rw (c.in-Ok.ensures.0, ← c.in-Ok.ensures.1, ← said, c.put-room.ensures.written, c.layout_row.ensures) (row_room _ _ _ (sym c.put-room.ensures.room ∙ c.if-room.true))
 
 pub returns-else-room : goal.returns-else-room
 returns-else-room c =
-    let said = found_told c.in-Ok.mode c.args.ins.now (Ok c.in-Ok-find.f) (λ k. (c.type_inv.ins k).fits) c.in-Ok-find.ensures in
+    let said = found_told c.in-Ok.mode c.args.ins.now (Ok c.in-Ok-find.found) (λ k. (c.type_inv.ins k).fits) c.in-Ok-find.ensures in
     rw (c.in-Ok.ensures.0, ← c.in-Ok.ensures.1, ← said, c.put-room.ensures.written, c.layout_row.ensures) (row_no_room _ _ _ (sym c.put-room.ensures.room ∙ c.if-room.false))
 
 pub returns-in-Err : goal.returns-in-Err
