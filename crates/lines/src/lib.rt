@@ -27,8 +27,8 @@ fn put_row(mode: Mode, image: &Image, place: usize, out: &mut Writer) -> usize
     passed(decoded)
 }
 
-// The row at an address of the image, whose first byte stands at `origin`, in a mode: its line to the front of `out`. It is made
-// in a place of its own, so that nothing is written where it does not fit.
+// The row at an address of the image, whose first byte stands at `origin`, in a mode: its line to the front of `out`.
+// It is made in a place of its own, so that nothing is written where it does not fit.
 pub fn row(
     mode: Mode,
     image: &[u8],
@@ -46,10 +46,8 @@ pub fn row(
         at: 0,
     };
     let passed = put_row(mode, &image, place, &mut writer);
-    let count = writer.at;
-    if !give(&writer.buf[..count], out) {
-        return Err(ListingRefusal::NoRoom);
-    }
+    let end = writer.at;
+    let count = give(&writer.buf[..end], out).ok_or(ListingRefusal::NoRoom)?;
     Ok(Lines { count, passed })
 }
 

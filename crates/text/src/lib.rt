@@ -36,5 +36,6 @@ pub fn text(mode: Mode, choice: u8, ins: &[u8], out: &mut [u8]) -> Result<usize,
         at: 0,
     };
     put_text(&mut writer, rec, choice);
-    give(&writer.buf[..writer.at], out).ok_or(TextRefusal::NoRoom)
+    let count = writer.at;
+    give(&writer.buf[..count], out).ok_or(TextRefusal::NoRoom)
 }

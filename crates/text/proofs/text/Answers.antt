@@ -24,8 +24,8 @@ by true n new out = refl
 by false n new out = refl
 
 -- what is answered, and left, of a text that was given
-told : {answer : Option ℕ} {t out new : List ℕ} → answer ≡ count out t → new ≡ left out t → told_by (ok_or answer TextRefusal.NoRoom) new ≡ given t out
-told {t = t} {out = out} e f = rw (e, f) (by (leb (length t) (length out)) (length t) _ out)
+told : {answer : Option ℕ} {new : List ℕ} (t out : List ℕ) → answer ≡ count out t → new ≡ left out t → told_by (ok_or answer TextRefusal.NoRoom) new ≡ given t out
+told t out e f = rw (e, f) (by (leb (length t) (length out)) (length t) _ out)
 
 pub slice_bounds-give-end : goal.slice_bounds-give-end
 slice_bounds-give-end c =
@@ -37,4 +37,4 @@ returns c =
     let room = fits c.args.mode c.args.choice c.args.ins.now c.disas-answer.result (λ j. (c.type_inv.ins j).fits) c.disas-answer.ensures.answer c.in-Done.is in
     let w = c.put_text.ensures.wrote in
     rw (le-ltb 7 c.args.choice (omega arith), ← c.disas-answer.ensures.answer, c.in-Done.is, c.ok_or.ensures.value)
-    (told (whether w room _ c.give.ensures.answer) (becomes w room _ c.give.ensures.bytes))
+    (told _ _ (whether w room _ c.give.ensures.answer) (becomes w room _ c.give.ensures.bytes))
