@@ -1,5 +1,6 @@
 -- The line has room for the row, and the part of it that is given is the row's line itself.
-use Rattle.std.proofs.Common.{arith, refl}
+use Rattle.std.proofs.Common.{◌≡◌, arith, refl, rules, Err}
+use Rattle.listing.specs.declared.ListingRefusal.{ListingRefusal}
 use Rattle.writer.proofs.Laws.{filled}
 use Rattle.writer.proofs.Given.{fitted, refused, becomes}
 use Rattle.image.proofs.Placed.{placed}
@@ -15,7 +16,8 @@ returns-in_err-count c =
     let w = c.put_row-passed.ensures.wrote.wrote in
     let at = placed c.in_ok-image.ensures.ok_part c.new.ensures.refused c.new.ensures.made c.in_ok-place.ensures.ok_part c.place_of.ensures.refused c.place_of.ensures.found in
     let has = refused w room _ c.give.ensures.answer c.in_err-count.ensures.ok_part in
-    rw (← at.bytes_are, ← at.origin_is, at.size, at.inside, at.place_is, ← at.found, has) (rw (rw has at (becomes w room _ c.give.ensures.bytes)) refl)
+    let answer : c.from_residual-in_err-count.result ≡ Err ListingRefusal.NoRoom = search rules in
+    rw (← at.bytes_are, ← at.origin_is, at.size, at.inside, at.place_is, ← at.found, has) (rw (answer, rw has at (becomes w room _ c.give.ensures.bytes)) refl)
 
 pub returns : goal.returns
 returns c =
