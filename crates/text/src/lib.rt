@@ -31,10 +31,7 @@ pub fn text(mode: Mode, choice: u8, ins: &[u8], out: &mut [u8]) -> Result<usize,
         Answer::Long => return Err(TextRefusal::Long),
     }
     let mut line = [0u8; OpCode::TEXT_MAX];
-    let mut writer = Writer {
-        buf: &mut line,
-        at: 0,
-    };
+    let mut writer = Writer::new(&mut line);
     put_text(&mut writer, rec, choice);
     let count = writer.at;
     give(&writer.buf[..count], out).ok_or(TextRefusal::NoRoom)

@@ -30,11 +30,12 @@ told t out e f = rw (e, f) (by (leb (length t) (length out)) (length t) _ out)
 pub slice_bounds-give-end : goal.slice_bounds-give-end
 slice_bounds-give-end c =
     let room = fits c.args.mode c.args.choice c.args.ins.now c.disas-answer.result (λ j. (c.type_inv.ins j).fits) c.disas-answer.ensures.answer c.in-Done.is in
-    omega (arith, filled c.put_text.ensures.wrote room)
+    let w = rw (c.new-writer.ensures.bytes, c.new-writer.ensures.front) at c.put_text.ensures.wrote in
+    omega (arith, filled w room)
 
 pub returns : goal.returns
 returns c =
     let room = fits c.args.mode c.args.choice c.args.ins.now c.disas-answer.result (λ j. (c.type_inv.ins j).fits) c.disas-answer.ensures.answer c.in-Done.is in
-    let w = c.put_text.ensures.wrote in
+    let w = rw (c.new-writer.ensures.bytes, c.new-writer.ensures.front) at c.put_text.ensures.wrote in
     rw (le-ltb 7 c.args.choice (omega arith), ← c.disas-answer.ensures.answer, c.in-Done.is, c.ok_or.ensures.value)
     (told _ _ (whether w room _ c.give.ensures.answer) (becomes w room _ c.give.ensures.bytes))
