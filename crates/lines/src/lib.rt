@@ -27,8 +27,8 @@ fn put_row(mode: Mode, image: &Image, place: usize, out: &mut Writer) -> usize
     passed(decoded)
 }
 
-// The row at an address of the image, whose first byte stands at `origin`, in a mode: its line to the front of `out`. It is made
-// in a place of its own, so that nothing is written where it does not fit.
+// The row at an address of the image, whose first byte stands at `origin`, in a mode: its line to the front of `out`.
+// It is made in a place of its own, so that nothing is written where it does not fit.
 pub fn row(
     mode: Mode,
     image: &[u8],
@@ -41,15 +41,10 @@ pub fn row(
     let image = Image::new(image, origin).ok_or(ListingRefusal::ImageSize)?;
     let place = image.place_of(address).ok_or(ListingRefusal::Nothing)?;
     let mut line = [0u8; LINE_MAX];
-    let mut writer = Writer {
-        buf: &mut line,
-        at: 0,
-    };
+    let mut writer = Writer::new(&mut line);
     let passed = put_row(mode, &image, place, &mut writer);
-    let count = writer.at;
-    if !give(&writer.buf[..count], out) {
-        return Err(ListingRefusal::NoRoom);
-    }
+    let end = writer.at;
+    let count = give(&writer.buf[..end], out).ok_or(ListingRefusal::NoRoom)?;
     Ok(Lines { count, passed })
 }
 
@@ -62,10 +57,7 @@ fn has_room(mode: Mode, image: &Image, place: usize, room: usize) -> bool
         return true;
     }
     let mut line = [0u8; LINE_MAX];
-    let mut writer = Writer {
-        buf: &mut line,
-        at: 0,
-    };
+    let mut writer = Writer::new(&mut line);
     put_row(mode, image, place, &mut writer);
     writer.at <= room
 }
@@ -82,7 +74,7 @@ pub fn rows(
 {
     let image = Image::new(image, origin).ok_or(ListingRefusal::ImageSize)?;
     let start = image.place_of(address).ok_or(ListingRefusal::Nothing)?;
-    let mut writer = Writer { buf: out, at: 0 };
+    let mut writer = Writer::new(out);
     let mut place = start;
     while place < image.bytes.len() && has_room(mode, &image, place, writer.buf.len() - writer.at) {
         let passed = put_row(mode, &image, place, &mut writer);

@@ -1,7 +1,7 @@
 // Numbers as text, written to lent bytes. What is inlined always keeps the place of a text's writer in a register.
 #![tactic(auto)]
 
-ghost use Rattle.std.specs.Prelude.{◌≡◌, ◌<◌, nat_abs};
+ghost use Rattle.std.specs.Prelude.{◌≡◌, ◌<◌};
 ghost use Rattle.wording.specs.Digits.{digit as digit_of, hex8, hex16, digit_at, decimal, signed};
 ghost use Rattle.writer.specs.Puts.{Puts};
 
@@ -13,9 +13,10 @@ fn digit(n: u8) -> u8
     ensures { result ≡ digit_of n }
 {
     if n < 10 {
-        return b'0' + n;
+        b'0' + n
+    } else {
+        b'A' + (n - 10)
     }
-    b'A' + (n - 10)
 }
 
 // Two upper-case hex digits.
@@ -30,8 +31,9 @@ pub fn put_hex8(out: &mut Writer, n: u8)
 pub fn put_hex16(out: &mut Writer, n: u16)
     ensures { Puts out.old (hex16 n) out.new }
 {
-    put_hex8(out, (n / 256) as u8);
-    put_hex8(out, (n % 256) as u8);
+    let [high, low] = n.to_be_bytes();
+    put_hex8(out, high);
+    put_hex8(out, low);
 }
 
 // The digit of n at the power p of ten, where n reaches it.

@@ -15,8 +15,8 @@ use writer::{Writer, give};
 // The largest choice: all three parts.
 const CHOICE_MAX: u8 = 7;
 
-// The parts of the row that `ins` decodes to in a mode that are chosen: bytes 1, instruction 2, T-states 4, added up. They are made in a
-// line of their own, so that nothing is written where they do not fit.
+// The parts of the row that `ins` decodes to in a mode that are chosen: bytes 1, instruction 2, T-states 4, added up.
+// They are made in a line of their own, so that nothing is written where they do not fit.
 pub fn text(mode: Mode, choice: u8, ins: &[u8], out: &mut [u8]) -> Result<usize, TextRefusal>
     ensures { told_by result out.new ≡ text_outcome choice (decode_in mode ins.now) out.old }
 {
@@ -31,14 +31,8 @@ pub fn text(mode: Mode, choice: u8, ins: &[u8], out: &mut [u8]) -> Result<usize,
         Answer::Long => return Err(TextRefusal::Long),
     }
     let mut line = [0u8; OpCode::TEXT_MAX];
-    let mut writer = Writer {
-        buf: &mut line,
-        at: 0,
-    };
+    let mut writer = Writer::new(&mut line);
     put_text(&mut writer, rec, choice);
     let count = writer.at;
-    if !give(&writer.buf[..count], out) {
-        return Err(TextRefusal::NoRoom);
-    }
-    Ok(count)
+    give(&writer.buf[..count], out).ok_or(TextRefusal::NoRoom)
 }

@@ -9,4 +9,6 @@ pub returns-then-room-ge-LINE_MAX : goal.returns-then-room-ge-LINE_MAX
 returns-then-room-ge-LINE_MAX c = sym (le-leb _ c.args.room (omega (arith, fits c.args.mode c.args.image.now c.args.place)))
 
 pub returns : goal.returns
-returns c = ap (λ (n : ℕ). leb n c.args.room) (counted c.put_row.ensures.wrote.wrote (fits c.args.mode c.args.image.now c.args.place))
+returns c =
+    let w = rw (c.new-writer.ensures.bytes, c.new-writer.ensures.front) at c.put_row.ensures.wrote.wrote in
+    ap (λ (n : ℕ). leb n c.args.room) (counted w (fits c.args.mode c.args.image.now c.args.place))

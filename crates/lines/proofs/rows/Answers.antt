@@ -18,7 +18,7 @@ pub loop-place-init : goal.loop-place-init
 loop-place-init c =
     let i = c.in_ok-image.image in
     let inside = rw c.in_ok-start.ensures.ok_part at c.place_of.ensures.inside in
-    (refl, begins c.args.mode i.bytes.now i.origin c.in_ok-start.start c.args.out.now (omega (arith, inside)))
+    (refl, rw (c.new-writer.ensures.bytes, c.new-writer.ensures.front) (begins c.args.mode i.bytes.now i.origin c.in_ok-start.start c.args.out.now (omega (arith, inside))))
 
 pub overflow_sub-writer : goal.overflow_sub-writer
 overflow_sub-writer c = let f = c.loop-place.invariant.1 in omega (arith, counted f.wrote f.fits, f.fits, size f.wrote)
