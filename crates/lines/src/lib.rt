@@ -22,13 +22,12 @@ fn put_row(mode: Mode, image: &Image, place: usize, out: &mut Writer) -> usize
     ensures passed { result ≡ passed_of mode (window (drop place image.now.bytes.now)) }
 {
     let decoded = decode_at(mode, image.bytes, place);
-    let address = image.origin + place as u16;
-    put_line(out, address, decoded, image.bytes[place]);
+    put_line(out, image.address_of(place), decoded, image.bytes[place]);
     passed(decoded)
 }
 
-// The row at an address of the image, whose first byte stands at `origin`, in a mode: its line to the front of `out`. It is made
-// in a place of its own, so that nothing is written where it does not fit.
+// The row at an address of the image, whose first byte stands at `origin`, in a mode: its line to the front of `out`.
+// It is made in a place of its own, so that nothing is written where it does not fit.
 pub fn row(
     mode: Mode,
     image: &[u8],
