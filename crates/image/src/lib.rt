@@ -27,7 +27,7 @@ impl<'a> Image<'a> {
         ensures refused { is_none result ≡ wrong_size bytes.now origin }
         ensures made { IfSome result (λ image. (image.bytes.now ≡ bytes.now) × (image.origin ≡ origin)) }
     {
-        if bytes.is_empty() || ADDRESSES - (origin as usize) < bytes.len() {
+        if bytes.is_empty() || ADDRESSES - usize::from(origin) < bytes.len() {
             return None;
         }
         Some(Image { bytes, origin })
@@ -39,8 +39,15 @@ impl<'a> Image<'a> {
         ensures inside { IfSome result (λ place. place < length self.now.bytes.now) }
         ensures found { IfSome result (λ place. self.now.origin + place ≡ address) }
     {
-        let place = address.checked_sub(self.origin)? as usize;
+        let place = usize::from(address.checked_sub(self.origin)?);
         (place < self.bytes.len()).then_some(place)
+    }
+
+    // The address of a place.
+    pub fn address_of(&self, place: usize) -> u16
+        ensures { place < length self.now.bytes.now → result ≡ self.now.origin + place }
+    {
+        self.origin.wrapping_add((place % ADDRESSES) as u16)
     }
 }
 

@@ -22,8 +22,7 @@ fn put_row(mode: Mode, image: &Image, place: usize, out: &mut Writer) -> usize
     ensures passed { result ≡ passed_of mode (window (drop place image.now.bytes.now)) }
 {
     let decoded = decode_at(mode, image.bytes, place);
-    let address = image.origin + place as u16;
-    put_line(out, address, decoded, image.bytes[place]);
+    put_line(out, image.address_of(place), decoded, image.bytes[place]);
     passed(decoded)
 }
 

@@ -31,7 +31,7 @@ impl Request {
         let mut fields = [0u8; INPUT_MAX + 3];
         input.read_exact(&mut fields).ok()?;
         let [asked, room, count, a, b, c, d, e] = fields;
-        let (room, count) = (room as usize, count as usize);
+        let (room, count) = (usize::from(room), usize::from(count));
         if BUFFER_SIZE < room || INPUT_MAX < count {
             return None;
         }
@@ -57,7 +57,8 @@ fn write_head<W: Write>(output: &mut W, ins: &[u8], number: u8, missing: u32) ->
 }
 
 // The record's bytes, also those of a refusal, which begin as no record's.
-fn write_record<W: Write>(output: &mut W, ins: &[u8]) -> io::Result<()> {
+fn write_record<W: Write>(output: &mut W, request: &Request) -> io::Result<()> {
+    let ins = request.ins();
     let mut record = [0xFFu8; 24];
     let mut missing = u32::MAX;
     let number = z80_record(0, ins, &mut record, &mut missing);
@@ -69,13 +70,12 @@ fn write_record<W: Write>(output: &mut W, ins: &[u8]) -> io::Result<()> {
 }
 
 // The count, which begins as no text's, as the missing bytes do, and the buffer as it is then.
-fn write_text<W: Write>(output: &mut W, ins: &[u8], choice: u8, room: usize) -> io::Result<()>
-    requires { room ≤ 56 }
-{
+fn write_text<W: Write>(output: &mut W, request: &Request, choice: u8) -> io::Result<()> {
+    let ins = request.ins();
     let mut buffer = [b'.'; BUFFER_SIZE];
     let mut count = u32::MAX;
     let mut missing = u32::MAX;
-    let out = &mut buffer[..room];
+    let out = &mut buffer[..request.room];
     let number = z80_text(0, choice, ins, out, &mut count, &mut missing);
     write_head(output, ins, number, missing)?;
     write!(output, " {count} ")?;
@@ -84,8 +84,8 @@ fn write_text<W: Write>(output: &mut W, ins: &[u8], choice: u8, room: usize) -> 
 
 fn answer<W: Write>(output: &mut W, request: &Request) -> io::Result<()> {
     match request.choice {
-        None => write_record(output, request.ins())?,
-        Some(choice) => write_text(output, request.ins(), choice, request.room)?,
+        None => write_record(output, request)?,
+        Some(choice) => write_text(output, request, choice)?,
     }
     output.write_all(b"\n")
 }

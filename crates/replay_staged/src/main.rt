@@ -26,7 +26,7 @@ const OUTCOME_SIZE: usize = 26;
 const BUFFER_SIZE: usize = 6656;
 
 // The bytes of an input, the fixed ones first, then room for the free ones.
-#[derive(Drop)]
+#[derive(Clone, Copy)]
 struct Request {
     fixed: usize,
     free: usize,
@@ -40,7 +40,7 @@ impl Request {
         let mut fields = [0u8; REQUEST_SIZE];
         input.read_exact(&mut fields).ok()?;
         let [free, fixed, a, b, c, d, e] = fields;
-        let (fixed, free) = (fixed as usize, free as usize);
+        let (fixed, free) = (usize::from(fixed), usize::from(free));
         if FREE_MAX < free || FIXED_MAX < fixed {
             return None;
         }
@@ -85,21 +85,23 @@ impl Outcomes {
     }
 
     // Those of every choice of the free bytes, the first of them slowest.
-    fn add_all<W: Write>(
-        &mut self,
-        output: &mut W,
-        ins: &mut [u8; INPUT_SIZE],
-        fixed: usize,
-        free: usize,
-    ) -> io::Result<()>
-        requires { fixed + free ≤ 7 }
-    {
+    fn add_all<W: Write>(&mut self, output: &mut W, request: Request) -> io::Result<()> {
+        let Request {
+            fixed,
+            free,
+            mut ins,
+        } = request;
         if free == 0 {
             return self.add(output, &ins[..fixed]);
         }
         for byte in 0..=255 {
             ins[fixed] = byte;
-            self.add_all(output, ins, fixed + 1, free - 1)?;
+            let chosen = Request {
+                fixed: fixed + 1,
+                free: free - 1,
+                ins,
+            };
+            self.add_all(output, chosen)?;
         }
         Ok(())
     }
@@ -112,8 +114,7 @@ fn answer_all<R: Read, W: Write>(input: &mut R, output: &mut W) -> io::Result<()
         let Some(request) = Request::read(input) else {
             break;
         };
-        let mut ins = request.ins;
-        outcomes.add_all(output, &mut ins, request.fixed, request.free)?;
+        outcomes.add_all(output, request)?;
     }
     output.write_all(&outcomes.bytes[..outcomes.size])
 }

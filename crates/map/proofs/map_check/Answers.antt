@@ -1,5 +1,5 @@
 -- The answer, which the check finds, is the one that the marking rules name.
-use Rattle.std.proofs.Common.{◌≡◌, ℕ, ◌+◌, List, rules}
+use Rattle.std.proofs.Common.{◌≡◌, ℕ, List, rules}
 use Rattle.std.specs.Prelude.{Err}
 use Rattle.table.specs.declared.Mode.{Mode}
 use Rattle.marking.specs.declared.MapRefusal.{MapRefusal}
@@ -19,7 +19,7 @@ returns-then-is_wrong_count-clause-rules c = named c.args.mode _ _ (Err MapRefus
 
 pub returns-in-Some-clause-rules : goal.returns-in-Some-clause-rules
 unfolding check_of
-returns-in-Some-clause-rules c = named c.args.mode _ _ (Err (MapRefusal.MarkValue (c.args.origin + c.in-Some.place))) (search rules)
+returns-in-Some-clause-rules c = named c.args.mode _ _ (Err (MapRefusal.MarkValue c.address_of.result)) (search rules)
 
 pub returns-in-Some-first_entry-clause-rules : goal.returns-in-Some-first_entry-clause-rules
 unfolding check_of

@@ -14,11 +14,11 @@ unfolding prefix_of
 disas_dd_fd_prefix-returns-in-Break t c =
     let prefixed : is_prefix (first c.args.ins.now) ≡ true = search rules in
     let told = c.in-Break.ensures ∙ rest_is c.args.ins.now c.args.rec c.requires in
-    rw (prefixed, ne_eqb _ _ c.if-ins.false, ne_eqb _ _ c.if-ins-2.false, ← told) c.replace.ensures
+    rw (prefixed, ne_eqb _ _ c.if-ins2.false, ne_eqb _ _ c.if-ins2-2.false, ← told) c.replace.ensures
 
 pub disas_dd_fd_prefix-returns-in-Continue : goal.disas_dd_fd_prefix-returns-in-Continue
 unfolding prefix_of
 disas_dd_fd_prefix-returns-in-Continue t c =
     let prefixed : is_prefix (first c.args.ins.now) ≡ true = search rules in
     let told = c.in-Continue.ensures ∙ rest_is c.args.ins.now c.args.rec c.requires in
-    rw (prefixed, ne_eqb _ _ c.if-ins.false, ne_eqb _ _ c.if-ins-2.false, ← told) c.pass-in-Continue.ensures
+    rw (prefixed, ne_eqb _ _ c.if-ins2.false, ne_eqb _ _ c.if-ins2-2.false, ← told) c.pass-in-Continue.ensures

@@ -4,6 +4,7 @@ use mathlib.Core.Path.{◌≡◌, sym, ap, ◌∙◌}
 use Prim.Native.Nat.{ℕ, ◌<◌, ◌≤◌}
 use lib.ListN.{length}
 use borrow.Author.Tests.{eqb-false}
+use native.Mathlib.Omega.{arith}
 use Rattle.opcode.specs.declared.record.OpCode.{OpCode}
 use Rattle.opcode.specs.Times.{retimed}
 use Rattle.table.specs.Consequences.{AllBytes}
@@ -27,16 +28,22 @@ returns-in-Break c =
     ∙ all_done c.args.ins.now c.in-Break.rec c.if-ins-gt-LENGTH_MAX.false (λ k. (c.type_inv.ins k).fits)
     (rw (c.new.ensures, c.ins_to_data.ensures) at c.in-Break.ensures)
 
-pub missing-requires-clause-ins_len_bound : goal.missing-requires-clause-ins_len_bound
-missing-requires-clause-ins_len_bound c =
+pub bytes_needed-requires-clause-ins_len_bound : goal.bytes_needed-requires-clause-ins_len_bound
+bytes_needed-requires-clause-ins_len_bound c =
     few c.args.ins.now c.in-Continue.rec c.if-ins-gt-LENGTH_MAX.false (λ k. (c.type_inv.ins k).fits)
     (rw (c.new.ensures, c.ins_to_data.ensures) at c.in-Continue.ensures)
     (eqb-false (length c.args.ins.now) 0 (sym c.if-is_empty.ensures))
 
+pub overflow_sub-missing : goal.overflow_sub-missing
+overflow_sub-missing c =
+    let some = eqb-false (length c.args.ins.now) 0 (sym c.if-is_empty.ensures) in
+    let left = rw (c.new.ensures, c.ins_to_data.ensures) at c.in-Continue.ensures in
+    omega (arith, c.bytes_needed.ensures, few c.args.ins.now c.in-Continue.rec c.if-ins-gt-LENGTH_MAX.false (λ k. (c.type_inv.ins k).fits) left some)
+
 pub returns-in-Continue : goal.returns-in-Continue
 returns-in-Continue c =
     let some = eqb-false (length c.args.ins.now) 0 (sym c.if-is_empty.ensures) in
-    (rw c.missing.ensures at c.refuse-in-Continue.ensures)
+    (rw c.bytes_needed.ensures at c.refuse-in-Continue.ensures)
     ∙ short_staged c.args.ins.now some c.if-ins-gt-LENGTH_MAX.false
     (few c.args.ins.now c.in-Continue.rec c.if-ins-gt-LENGTH_MAX.false (λ k. (c.type_inv.ins k).fits)
     (rw (c.new.ensures, c.ins_to_data.ensures) at c.in-Continue.ensures)

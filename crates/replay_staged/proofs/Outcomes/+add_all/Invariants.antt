@@ -2,4 +2,4 @@
 use Rattle.replay_staged.proofs.Outcomes.+add_all.Given as goal
 
 abbrev pub decreases-add_all : goal.decreases-add_all
-decreases-add_all g l = l.free
+decreases-add_all g l = l.request.free

@@ -7,8 +7,8 @@ use Rattle.table.specs.Decode.{needed_of}
 use Rattle.table.specs.declared.Mode.{Mode}
 use Rattle.table.proofs.Sizes.{needed_at_most}
 use Rattle.staged.proofs.Needed.{two_told, two_left, three_told, three_left}
-use Rattle.staged.proofs.missing.Goals as goal
-use Rattle.staged.proofs.missing.Goals.{Then-is_break, Then-is_break-2}
+use Rattle.staged.proofs.bytes_needed.Goals as goal
+use Rattle.staged.proofs.bytes_needed.Goals.{Then-is_break, Then-is_break-2}
 
 two-needed : (c : Then-is_break) → needed_of c.args.ins.now ≡ 2
 two-needed c =
@@ -19,23 +19,11 @@ two-needed c =
 three-needed : (c : Then-is_break-2) → needed_of c.args.ins.now ≡ 3
 three-needed c = three_told c.args.ins.now _ c.args.rec c.requires.ins_nonzero (sym (rw c.three_bytes.ensures at c.if-is_break-2.ensures))
 
-pub overflow_cast-n : goal.overflow_cast-n
-overflow_cast-n c = omega (arith, needed_at_most Mode.Rust c.args.ins.now)
-
-pub overflow_sub-result : goal.overflow_sub-result
-overflow_sub-result c = omega (arith, two-needed c)
-
 pub returns-then-is_break : goal.returns-then-is_break
-returns-then-is_break c = omega (arith, two-needed c)
-
-pub overflow_sub-result-then-is_break-2 : goal.overflow_sub-result-then-is_break-2
-overflow_sub-result-then-is_break-2 c = omega (arith, three-needed c)
+returns-then-is_break c = sym (two-needed c)
 
 pub returns-then-is_break-2 : goal.returns-then-is_break-2
-returns-then-is_break-2 c = omega (arith, three-needed c)
-
-pub overflow_sub-result-2 : goal.overflow_sub-result-2
-overflow_sub-result-2 c = omega (arith, needed_at_most Mode.Rust c.args.ins.now)
+returns-then-is_break-2 c = sym (three-needed c)
 
 pub returns : goal.returns
 returns c =
