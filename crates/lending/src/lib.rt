@@ -1,4 +1,5 @@
-// Records lent by their owner: what an edit of one leaves, in specs/, and the laws of such edits and of the owners that lend.
+// Records lent by their owner: what an edit of one leaves, in specs/, and the laws of such edits and of the owners
+// that lend.
 #![tactic(auto)]
 
 ghost use Rattle.std.specs.Prelude.{is_ok};
@@ -10,8 +11,8 @@ ghost use Rattle.lending.specs.Lent.{answered};
 use opcode::record::OpCode;
 use opcode::timing::Edited;
 
-// An edit of a lent record, by the same edit by value: the record is taken whole, that of the answer is stored, and what the answer
-// says is said. So it meets whatever holds of every answer of the edit by value.
+// An edit of a lent record, by the same edit by value: the record is taken whole, that of the answer is stored, and
+// what the answer says is said. So it meets whatever holds of every answer of the edit by value.
 pub fn edits<F: FnOnce(OpCode) -> Edited>(rec: &mut OpCode, by_value: F) -> bool
     requires { F.pre by_value rec.old }
     ensures { F.post by_value rec.old (answered result rec.new) }
@@ -36,8 +37,8 @@ pub fn lends<F: FnOnce(&mut OpCode) -> bool>(mut rec: OpCode, edit: F) -> Edited
     if edit(&mut rec) { Ok(rec) } else { Err(rec) }
 }
 
-// Two edits, one behind the other, of a record of the function's own: the second finds what the first left, and what that leaves
-// is given with what each said.
+// Two edits, one behind the other, of a record of the function's own: the second finds what the first left, and
+// what that leaves is given with what each said.
 pub fn owns_and_lends<F: FnOnce(&mut OpCode) -> bool, G: FnOnce(&mut OpCode) -> bool>(
     mut rec: OpCode,
     first: F,

@@ -1,5 +1,5 @@
-// How instructions, registers and conditions are spelt. The spellings stand in fixed tables, five bytes a row: four letters,
-// with blanks behind a shorter spelling, and the count of those that are its own.
+// How instructions, registers and conditions are spelt. The spellings stand in fixed tables, five bytes a row: four
+// letters, with blanks behind a shorter spelling, and the count of those that are its own.
 #![tactic(auto)]
 
 ghost use Rattle.wording.specs.Names.{name_of, reg8_text, reg16_text, condition_text};

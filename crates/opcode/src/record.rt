@@ -8,8 +8,8 @@ use super::instruction::Instruction;
 use super::operand::Place;
 use super::times::{Span, row_times};
 
-// The first `mcycles` of the six T-state places are filled and the rest are zero; `data` is the input, padded with zeros;
-// `least` and `most` are the quick and the slow way through the row.
+// The first `mcycles` of the six T-state places are filled and the rest are zero; `data` is the input, padded with
+// zeros; `least` and `most` are the quick and the slow way through the row.
 #[derive(Clone, Copy)]
 pub struct OpCode {
     pub length: Bytes,

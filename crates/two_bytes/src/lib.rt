@@ -1,4 +1,5 @@
-// The rows of two bytes, in two stages: LD r,n by a mask, and the rest: those with an operand byte, and the pages of ED and CB.
+// The rows of two bytes, in two stages: LD r,n by a mask, and the rest: those with an operand byte, and the pages
+// of ED and CB.
 #![tactic(auto)]
 
 ghost use Rattle.std.specs.Prelude.{◌≡◌, [], ◌∷◌};
