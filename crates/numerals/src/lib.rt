@@ -12,11 +12,7 @@ fn digit(n: u8) -> u8
     requires { n < 16 }
     ensures { result ≡ digit_of n }
 {
-    if n < 10 {
-        b'0' + n
-    } else {
-        b'A' + (n - 10)
-    }
+    if n < 10 { b'0' + n } else { b'A' + (n - 10) }
 }
 
 // Two upper-case hex digits.
