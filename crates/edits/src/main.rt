@@ -109,10 +109,7 @@ fn put_answer(line: &mut Writer, ok: bool) {
 // The request, what the edits say, and the record as they left it.
 fn write_line<W: Write>(output: &mut W, request: &[u8], left: Twice) -> io::Result<()> {
     let mut buf = [0u8; LINE_SIZE];
-    let mut line = Writer {
-        buf: &mut buf,
-        at: 0,
-    };
+    let mut line = Writer::new(&mut buf);
     put_pairs(&mut line, request, b"", b" ");
     line.put(b'=');
     put_answer(&mut line, left.first);

@@ -71,16 +71,19 @@ fn put_part<F: FnOnce(&mut Writer)>(out: &mut Writer, present: bool, write: F)
     }
 }
 
+// The choice of all three parts, the largest.
+pub const CHOICE_MAX: u8 = 7;
+
 // The parts of a choice: bytes 1, instruction 2, T-states 4, added up.
 #[inline(always)]
 fn put_parts(out: &mut Writer, rec: OpCode, choice: u8)
     ensures { Puts out.old (text_of choice rec) out.new }
 {
-    put_part(out, choice % 2 == 1, |out| put_bytes_part(out, rec));
-    put_part(out, choice / 2 % 2 == 1, |out| {
+    put_part(out, choice & 1 != 0, |out| put_bytes_part(out, rec));
+    put_part(out, choice & 2 != 0, |out| {
         put_instruction_part(out, rec)
     });
-    put_part(out, choice / 4 % 2 == 1, |out| put_times_part(out, rec));
+    put_part(out, choice & 4 != 0, |out| put_times_part(out, rec));
 }
 
 // They are put through a writer of its own: all that it is lent to is inlined, so that its place stays in a register.

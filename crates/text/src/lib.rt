@@ -7,13 +7,10 @@ ghost use Rattle.wording.specs.Answers.{told_by, text_outcome};
 
 use disas::disas;
 use opcode::record::OpCode;
-use record_text::put_text;
+use record_text::{CHOICE_MAX, put_text};
 use table::{Answer, Decoded, Mode};
 use wording::TextRefusal;
 use writer::{Writer, give};
-
-// The largest choice: all three parts.
-const CHOICE_MAX: u8 = 7;
 
 // The parts of the row that `ins` decodes to in a mode that are chosen: bytes 1, instruction 2, T-states 4, added up.
 // They are made in a line of their own, so that nothing is written where they do not fit.
