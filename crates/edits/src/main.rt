@@ -17,9 +17,11 @@ use std::io::{Read, Write};
 use std::{array, io};
 use writer::Writer;
 
+// The bytes of a request.
 const REQUEST_SIZE: usize = 17;
 
-// A line: three bytes for each of the request's, five for = and the two answers, three for each of the record's 24, and LF.
+// A line: three bytes for each of the request's, five for = and the two answers, three for each of the record's 24, and
+// LF.
 const LINE_SIZE: usize = 129;
 
 // The T-states of a request, six bytes and a count.
@@ -73,7 +75,8 @@ impl Request {
     }
 }
 
-// LD (IX-128), 07 with a third operand and row times of its own, so that every place has something, and with the request's T-states.
+// LD (IX-128), 07 with a third operand and row times of its own, so that every place has something, and with the
+// request's T-states.
 fn record(held: Timing) -> OpCode {
     let Timing { tstates, mcycles } = held;
     OpCode {

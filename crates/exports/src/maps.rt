@@ -11,8 +11,8 @@ use answers::maps::tell;
 use rom::map_check;
 use table::Mode;
 
-// Whether a map meets the marking rules in a mode: the marks of an image, whose first byte stands at `origin`, and the entries, byte
-// pairs, low first.
+// Whether a map meets the marking rules in a mode: the marks of an image, whose first byte stands at `origin`, and the
+// entries, byte pairs, low first.
 pub fn z80_map_check(
     mode: u8,
     image: &[u8],

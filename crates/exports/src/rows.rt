@@ -8,8 +8,8 @@ use answers::rows::tell;
 use rom::row;
 use table::Mode;
 
-// The row at an address of the image, whose first byte stands at `origin`, in a mode: its line to the front of `out`, the line's count
-// and the bytes passed.
+// The row at an address of the image, whose first byte stands at `origin`, in a mode: its line to the front of `out`, the
+// line's count and the bytes passed.
 pub fn z80_row(
     mode: u8,
     image: &[u8],

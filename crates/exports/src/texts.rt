@@ -9,8 +9,8 @@ use answers::texts::tell;
 use table::Mode;
 use text::text;
 
-// The chosen parts of the text of `ins`, decoded in a mode, to the front of `out`, their count, and how many bytes are missing where the decode is
-// Short.
+// The chosen parts of the text of `ins`, decoded in a mode, to the front of `out`, their count, and how many bytes are
+// missing where the decode is Short.
 pub fn z80_text(
     mode: u8,
     choice: u8,
