@@ -1,7 +1,7 @@
 // An image, whose first byte stands at the address `origin`, and its places.
 #![tactic(auto)]
 
-ghost use Rattle.std.specs.Prelude.{◌≡◌, ℕ, ◌+◌, ◌<◌, ◌≤◌, IfSome, is_none, length, drop, slice_index};
+ghost use Rattle.std.specs.Prelude.{◌≡◌, ℕ, ◌+◌, ◌%◌, ◌<◌, ◌≤◌, IfSome, is_none, length, drop, slice_index};
 ghost use Rattle.image.specs.Places.{wrong_size, outside, window};
 
 // The addresses that there are: an image ends with the last of them at the latest.
@@ -43,9 +43,10 @@ impl<'a> Image<'a> {
         (place < self.bytes.len()).then_some(place)
     }
 
-    // The address of a place.
+    // The address of a place; places count on behind the last address.
     pub fn address_of(&self, place: usize) -> u16
-        ensures { place < length self.now.bytes.now → result ≡ self.now.origin + place }
+        ensures counted { result ≡ (self.now.origin + place) % 65536 }
+        ensures inside { place < length self.now.bytes.now → result ≡ self.now.origin + place }
     {
         self.origin.wrapping_add((place % ADDRESSES) as u16)
     }

@@ -15,7 +15,7 @@ unfolding line_of
 is_line mode image origin place d e = rw (e, first_at place image) refl
 
 pub returns-clause-wrote : goal.returns-clause-wrote
-returns-clause-wrote c = put_told (is_line c.args.mode c.args.image.now.bytes.now c.args.image.now.origin c.args.place _ c.decode_at-decoded.ensures) (rw (c.address_of.ensures c.requires) at c.put_line.ensures)
+returns-clause-wrote c = put_told (is_line c.args.mode c.args.image.now.bytes.now c.args.image.now.origin c.args.place _ c.decode_at-decoded.ensures) (rw (c.address_of.ensures.inside c.requires) at c.put_line.ensures)
 
 pub returns-clause-passed : goal.returns-clause-passed
 unfolding passed_of

@@ -21,5 +21,5 @@ unfolding look_of
 judge_start-requires-clause-row_in_bounds c =
     let s = c.args in
     let m = chart_of s.self.now in
-    let sees = (rw (c.address_of-address.ensures c.requires) at c.view.ensures) ∙ ap (λ (d : Decoded). view_of (m.origin + s.place) d) c.decode_at.ensures in
+    let sees = (rw (c.address_of-address.ensures.inside c.requires) at c.view.ensures) ∙ ap (λ (d : Decoded). view_of (m.origin + s.place) d) c.decode_at.ensures in
     in_room s.mode m s.place _ (sym sees)
