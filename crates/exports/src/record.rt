@@ -23,7 +23,8 @@ fn put(bytes: [u8; SIZE], out: &mut [u8]) -> bool
     true
 }
 
-// Decodes `ins` in a mode, says how many bytes are missing where that is Short and, where 24 bytes are lent, writes the record, which is empty on a refusal, to the front of `out`.
+// Decodes `ins` in a mode, says how many bytes are missing where that is Short and, where 24 bytes are lent,
+// writes the record, which is empty on a refusal, to the front of `out`.
 pub fn z80_record(mode: u8, ins: &[u8], out: &mut [u8], missing: &mut u32) -> u8
     ensures { outcome result missing.new out.new ≡ cond (bad_mode mode) (outcome 35 0 out.old) (record_outcome (decode_in (mode_of mode) ins.now) out.old) }
 {

@@ -108,8 +108,8 @@ fn fix_load(rec: OpCode, n: u8) -> OpCode
     shorter
 }
 
-// What `disas_dd_fd_prefix` makes of the record of the bytes behind the prefix. Where nothing is to be replaced it is left as it
-// is and not taken, and so is one that no row makes, of more than four bytes.
+// What `disas_dd_fd_prefix` makes of the record of the bytes behind the prefix. Where nothing is to be replaced it
+// is left as it is and not taken, and so is one that no row makes, of more than four bytes.
 #[tactic(auto, unfolding(crate::specs::Replaced::replaced))]
 pub fn replace(rec: OpCode, prefix: u8, d: u8, n: u8) -> Stage
     ensures { result ≡ replaced (named prefix) d n rec }

@@ -9,8 +9,8 @@ use super::named::instruction_or_last;
 use opcode::counts::RowTime;
 use opcode::times::Span;
 
-// By the instruction's number, a digit each: 1 JR, 2 CALL, 3 RET, 4 DJNZ, 5 one that repeats itself, 0 any other. Digits and
-// no `match` of them: which one it is cannot be guessed.
+// By the instruction's number, a digit each: 1 JR, 2 CALL, 3 RET, 4 DJNZ, 5 one that repeats itself, 0 any other.
+// Digits and no `match` of them: which one it is cannot be guessed.
 #[tactic(auto, unfolding(crate::specs::Paces::paces_of))]
 fn paces(part: u8) -> u64
     ensures { result ≡ paces_of part }
@@ -49,7 +49,8 @@ fn total(row: u64) -> u16
     u16::from(first + second + third + fourth + fifth + sixth)
 }
 
-// From which pace on a row has a quick way: with a condition all but 0, without one DJNZ and the rows that repeat themselves.
+// From which pace on a row has a quick way: with a condition all but 0, without one DJNZ and the rows that repeat
+// themselves.
 fn steady(conditional: bool) -> u8
     ensures { result ≡ cond conditional 0 3 }
 {
