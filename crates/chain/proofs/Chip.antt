@@ -5,9 +5,11 @@ use mathlib.Core.Bool.{Bool, true, false, cond}
 use mathlib.Core.List.{List, [], ◌∷◌, map}
 use Prim.Native.Nat.{ℕ, ◌-◌, ◌<◌, ◌≤◌, ◌/◌, ◌%◌}
 use native.Mathlib.Omega.{arith}
-use lib.Dec.{T, eqb, ltb, leb, leb→le}
+use lib.Dec.{eqb, ltb}
 use lib.ListN.{length, get_or}
 use borrow.Author.Tests.{eqb-true, ne_eqb, le-ltb}
+use Rattle.std.specs.Prelude.{Result}
+use Rattle.opcode.specs.declared.counts.Bytes.{Bytes}
 use Rattle.opcode.specs.Record.{sum}
 use Rattle.table.specs.declared.Answer.{Answer}
 use Rattle.table.specs.declared.Decoded.{Decoded}
@@ -19,7 +21,6 @@ use Rattle.table.specs.Ed.{ed}
 use Rattle.table.specs.Decode.{is_prefix, operand_bytes, four, refused, short, done}
 use Rattle.table.specs.Chip.{defined, chip_behind, chip_row_of, decode_in}
 use Rattle.table.specs.Consequences.{AllBytes, first, second}
-use Rattle.table.proofs.Pages.{every as all, at_code}
 use Rattle.table.proofs.Answers.{unprefixed, rust_mode}
 use Rattle.table.proofs.Modes.{else_agree}
 use Rattle.packed.specs.Named.{instruction_at, reg8_at, reg16_at, condition_at}
@@ -28,7 +29,7 @@ use Rattle.prefix.specs.Changed.{indexed, is_hl, renamed, with_addr, with_hl, ch
 use Rattle.chain.specs.Chain.{whole_of, decoder_of}
 use Rattle.chain.specs.Chip.{defined_of, chip_prefix_of, chip_of, number_in}
 use Rattle.chain.proofs.Pages.{but, by_code, every, by_line, by_row}
-use Rattle.chain.proofs.Agrees.{answered, few_missing, by_prefix_lem, decoder_agrees}
+use Rattle.chain.proofs.Agrees.{told, answered, by_prefix_lem, decoder_agrees}
 
 abbrev decoded : List ℕ → Decoded
 decoded s = answered (chip_of s) s
@@ -40,17 +41,13 @@ Meet s = decoded s ≡ decode_in Mode.Chip s
 abbrev by_length : ℕ → List ℕ → List ℕ → ℕ → Decoded
 by_length n s d r = cond (ltb n (r / 0x100000000 % 16)) (short (r / 0x100000000 % 16 - n)) (done (record_from r s d))
 
--- the same of any bytes o behind the code and data d
-abbrev told : ℕ → List ℕ → List ℕ → Decoded
-told r o d = cond (ltb r 16) (short r) (done (record_from r o d))
-
-length_answers : (r n : ℕ) (o d : List ℕ) → ltb r 16 ≡ false → told (whole_of r n) o d ≡ by_length n o d r
+length_answers : (r n : ℕ) (o d : List ℕ) → told (whole_of r n) o d ≡ by_length n o d r
 unfolding whole_of
-length_answers r n o d big = by_test (ltb n (r / 0x100000000 % 16)) refl
+length_answers r n o d = by_test (ltb n (r / 0x100000000 % 16)) refl
   where
     by_test : (b : Bool) → ltb n (r / 0x100000000 % 16) ≡ b → told (whole_of r n) o d ≡ by_length n o d r
-    by_test true e = rw (e, few_missing r n)
-    by_test false e = rw (e, big)
+    by_test true e = rw e
+    by_test false e = rw e
 
 -- the ED page, its undefined codes defined
 module _ (n : ℕ) (s d : List ℕ) where
@@ -65,18 +62,13 @@ module _ (n : ℕ) (s d : List ℕ) where
   ed_meets : (b : ℕ) → by_length n s d (defined_of (packed (get_or ed b gap))) ≡ by_row n s d (defined (get_or ed b gap))
   ed_meets b = by_line (λ (x : Row). by_length n s d (defined_of (packed x))) (λ (x : Row). by_row n s d (defined x)) ed ed_same none_same b
 
-ed_large : T (all (λ (x : Row). leb 16 (defined_of (packed x))) ed) × T (leb 16 (defined_of (packed gap)))
-unfolding ed packed
-ed_large = (tt, tt)
-
 -- ED with its code, or alone
 ed_row_meets : (s : List ℕ) → is_prefix (first s) ≡ false → eqb (first s) 0xED ≡ true → (o d : List ℕ) → told (chip_of s) o d ≡ by_row (length s) o d (chip_row_of s)
 unfolding chip_of
 ed_row_meets s q e o d =
     let x = get_or ed (second s) gap in
     let no : eqb (first s) 0xCB ≡ false = ap (λ (b : ℕ). eqb b 0xCB) (eqb-true (first s) 0xED e) in
-    let big = le-ltb (defined_of (packed x)) 16 (leb→le 16 (defined_of (packed x)) (at_code (λ (y : Row). leb 16 (defined_of (packed y))) ed ed_large.0 ed_large.1 (second s))) in
-    rw (q, unprefixed Mode.Chip s q, no, e) (length_answers (defined_of (packed x)) (length s) o d big ∙ ed_meets (length s) o d (second s))
+    rw (q, unprefixed Mode.Chip s q, no, e) (length_answers (defined_of (packed x)) (length s) o d ∙ ed_meets (length s) o d (second s))
 
 ed_meet : (s : List ℕ) → (length s ≡ 0 → ⊥) → length s ≤ 4 → is_prefix (first s) ≡ false → eqb (first s) 0xED ≡ true → Meet s
 unfolding decode_in
@@ -93,7 +85,7 @@ page_meets s bytes some most q = by_ed (eqb (first s) 0xED) refl
   where
     by_ed : (b : Bool) → eqb (first s) 0xED ≡ b → Meet s
     by_ed true e = ed_meet s some most q e
-    by_ed false e = ap (λ (n : ℕ). answered n s) (else_number s q e) ∙ decoder_agrees s bytes some most ∙ sym (rust_mode s) ∙ sym (else_agree s q e)
+    by_ed false e = ap (λ (n : Result ℕ Bytes). answered n s) (else_number s q e) ∙ decoder_agrees s bytes some most ∙ sym (rust_mode s) ∙ sym (else_agree s q e)
 
 -- both at each code b of a page, but where t tells otherwise; f lays the bytes around the code
 abbrev Codes : (ℕ → Bool) → (ℕ → List ℕ) → Type 0

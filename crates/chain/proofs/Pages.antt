@@ -4,9 +4,9 @@ use mathlib.Core.Path.{◌≡◌, refl, ap}
 use mathlib.Core.Bool.{Bool, true, false, cond, ◌&&◌, ◌||◌, true≢false}
 use mathlib.Core.List.{List, [], ◌∷◌, map}
 use Prim.Native.Nat.{ℕ, zero, suc, ◌-◌, ◌<◌, ◌/◌, ◌%◌}
-use lib.Dec.{T, eqb, ltb, leb, leb→le}
+use lib.Dec.{eqb, ltb}
 use lib.ListN.{length, drop, get_or}
-use borrow.Author.Tests.{eqb-true, le-ltb}
+use borrow.Author.Tests.{eqb-true}
 use Rattle.table.specs.declared.Decoded.{Decoded}
 use Rattle.table.specs.Row.{Row, gap}
 use Rattle.table.specs.Departures.{needed}
@@ -16,7 +16,7 @@ use Rattle.table.specs.Ed.{ed}
 use Rattle.table.specs.Decode.{is_prefix, page_row, record_of, ed_alone, short, done}
 use Rattle.table.specs.Consequences.{values, AllBytes, first, second}
 use Rattle.table.proofs.Upto.{agree}
-use Rattle.table.proofs.Pages.{every as all, at_code, chosen, otherwise}
+use Rattle.table.proofs.Pages.{chosen, otherwise}
 use Rattle.packed.specs.Named.{instruction_at, reg8_at, reg16_at, condition_at}
 use Rattle.packed.specs.Packed.{packed, read_kind, kind_at, record_from}
 use Rattle.chain.specs.Chain.{nop, whole_of, whole_ed, chain_of}
@@ -89,35 +89,6 @@ cb_some : but every false (λ (b : ℕ). eqb (packed (get_or cb b gap)) 0) ≡ b
 unfolding cb packed
 cb_some = refl
 
--- a row's number is 16 or more
-abbrev pub large : ℕ → Bool
-large r = eqb r 0 || leb 16 r
-
-plain_large : T (all (λ (x : Row). large (packed x)) plain)
-unfolding plain packed
-plain_large = tt
-
-cb_large : T (all (λ (x : Row). large (packed x)) cb)
-unfolding cb packed
-cb_large = tt
-
-ed_large : T (all (λ (x : Row). large (packed x)) ed)
-unfolding ed packed
-ed_large = tt
-
-pub page_large : (b0 b1 : ℕ) → T (large (packed (page_row b0 b1)))
-unfolding page_row packed
-page_large b0 b1 =
-    chosen (λ (x : Row). T (large (packed x))) (eqb b0 0xCB) _ _ (at_code (λ (x : Row). large (packed x)) cb cb_large tt b1)
-    (chosen (λ (x : Row). T (large (packed x))) (eqb b0 0xED) _ _ (at_code (λ (x : Row). large (packed x)) ed ed_large tt b1) (at_code (λ (x : Row). large (packed x)) plain plain_large tt b0))
-
-pub is_large : (r : ℕ) → T (large r) → eqb r 0 ≡ false → ltb r 16 ≡ false
-is_large r = by_test (eqb r 0)
-  where
-    by_test : (b : Bool) → T (b || leb 16 r) → b ≡ false → ltb r 16 ≡ false
-    by_test true t e = absurd (true≢false e)
-    by_test false t e = le-ltb r 16 (leb→le 16 r t)
-
 row_whole : (r n : ℕ) → eqb r 0 ≡ false → whole_of r n ≡ whole_ed r n
 unfolding whole_ed
 row_whole r n e = rw e
@@ -127,15 +98,15 @@ more true e = absurd (true≢false e)
 more false e = refl
 
 -- without a prefix the chain gives the number of the page's row
-pub chain_page : (p : ℕ) (s : List ℕ) → AllBytes s → eqb (length s) 0 ≡ false → is_prefix (first s) ≡ false → ed_alone s ≡ false → chain_of p s ≡ whole_ed (packed (page_row (first s) (second s))) (length s)
+pub chain_page : (p : ℕ) (s : List ℕ) → AllBytes s → is_prefix (first s) ≡ false → ed_alone s ≡ false → chain_of p s ≡ whole_ed (packed (page_row (first s) (second s))) (length s)
 unfolding chain_of page_row
-chain_page p s bytes some q alone = by_tests (eqb (first s) 0xCB) (eqb (first s) 0xED) refl refl
+chain_page p s bytes q alone = by_tests (eqb (first s) 0xCB) (eqb (first s) 0xED) refl refl
   where
     by_tests : (u v : Bool) → eqb (first s) 0xCB ≡ u → eqb (first s) 0xED ≡ v → chain_of p s ≡ whole_ed (packed (page_row (first s) (second s))) (length s)
     by_tests true v e f =
         let f' : eqb (first s) 0xED ≡ false = ap (λ (b : ℕ). eqb b 0xED) (eqb-true (first s) 0xCB e) in
-        rw (some, q, f', e) (row_whole _ _ (by_code every false (λ (b : ℕ). eqb (packed (get_or cb b gap)) 0) every cb_some (second s) (bytes 1) refl))
-    by_tests false true e f = rw (some, q, f, e, more (eqb (length s) 1) (rw f at alone))
+        rw (q, f', e) (row_whole _ _ (by_code every false (λ (b : ℕ). eqb (packed (get_or cb b gap)) 0) every cb_some (second s) (bytes 1) refl))
+    by_tests false true e f = rw (q, f, e, more (eqb (length s) 1) (rw f at alone))
     by_tests false false e f =
-        rw (some, q, f, e)
+        rw (q, f, e)
         (row_whole _ _ (by_code (λ (b : ℕ). leads b || is_prefix b) false (λ (b : ℕ). eqb (packed (get_or plain b gap)) 0) every plain_some (first s) (bytes 0) (rw (e, f, q))))

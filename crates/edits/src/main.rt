@@ -13,14 +13,14 @@ use opcode::record::OpCode;
 use opcode::registers::RegI;
 use opcode::timing::Timing;
 use owner::{Twice, extend_and_push, insert_and_remove};
-use std::io;
 use std::io::{Read, Write};
-use writer::{put, put_bytes};
+use std::{array, io};
+use writer::Writer;
 
-// A request: which owner, six T-states and a count for the record and for what is put in, and two numbers more.
 const REQUEST_SIZE: usize = 17;
 
-// A line: three bytes for each of the request's, five for = and the two answers, three for each of the record's 24, and LF.
+// A line: three bytes for each of the request's, five for = and the two answers, three for each of the record's 24,
+// and LF.
 const LINE_SIZE: usize = 129;
 
 // The T-states of a request, six bytes and a count.
@@ -28,22 +28,56 @@ fn timing(b: &[u8]) -> Timing
     requires { length b.now ≡ 7 }
 {
     Timing {
-        tstates: [
-            TStates(b[0]),
-            TStates(b[1]),
-            TStates(b[2]),
-            TStates(b[3]),
-            TStates(b[4]),
-            TStates(b[5]),
-        ],
+        tstates: array::from_fn(|i| TStates(b[i])),
         mcycles: MCycles(b[6]),
     }
 }
 
-// LD (IX-128), 07 with a third operand and row times of its own, so that every place has something, and with the request's T-states.
+// The edits that are asked for, the T-states that the record has and those that are put in, and two numbers more.
+#[derive(Clone, Copy)]
+struct Request {
+    asked: u8,
+    held: Timing,
+    more: Timing,
+    first: u8,
+    second: u8,
+}
+
+impl Request {
+    // By its 17 bytes.
+    fn new(bytes: &[u8]) -> Request
+        requires { length bytes.now ≡ 17 }
+    {
+        Request {
+            asked: bytes[0],
+            held: timing(&bytes[1..8]),
+            more: timing(&bytes[8..15]),
+            first: bytes[15],
+            second: bytes[16],
+        }
+    }
+
+    // What the edits leave of a record: 0 asks for extend and push, another number for insert and remove.
+    fn edited(self, rec: OpCode) -> Twice
+        ensures { result ≡ edits_of self.asked rec self.more self.first self.second }
+    {
+        let Request {
+            more,
+            first,
+            second,
+            ..
+        } = self;
+        match self.asked {
+            0 => extend_and_push(rec, more, TStates(first)),
+            _ => insert_and_remove(rec, usize::from(first), more, usize::from(second)),
+        }
+    }
+}
+
+// LD (IX-128), 07 with a third operand and row times of its own, so that every place has something, and with the
+// request's T-states.
 fn record(held: Timing) -> OpCode {
-    let tstates = held.tstates;
-    let mcycles = held.mcycles;
+    let Timing { tstates, mcycles } = held;
     OpCode {
         length: Bytes(4),
         ins: Instruction::LD,
@@ -58,57 +92,39 @@ fn record(held: Timing) -> OpCode {
     }
 }
 
-// The edits that are asked for: 0 is extend and push, another number insert and remove.
-fn edited(asked: u8, rec: OpCode, more: Timing, first: u8, second: u8) -> Twice
-    ensures { result ≡ edits_of asked rec more first second }
-{
-    if asked == 0 {
-        return extend_and_push(rec, more, TStates(first));
-    }
-    insert_and_remove(rec, first as usize, more, second as usize)
-}
-
 // Each byte as two digits, with what stands before and behind each.
-fn put_pairs(line: &mut [u8], at: usize, bytes: &[u8], before: &[u8], behind: &[u8]) -> usize {
-    let mut next = at;
+fn put_pairs(line: &mut Writer, bytes: &[u8], before: &[u8], behind: &[u8]) {
     for byte in bytes {
-        next = put_bytes(line, next, before);
-        next = put_hex8(line, next, *byte);
-        next = put_bytes(line, next, behind);
+        line.put_bytes(before);
+        put_hex8(line, *byte);
+        line.put_bytes(behind);
     }
-    next
 }
 
-fn put_answer(line: &mut [u8], at: usize, ok: bool) -> usize {
-    let next = put(line, at, b' ');
-    if ok {
-        return put(line, next, b'1');
-    }
-    put(line, next, b'0')
+fn put_answer(line: &mut Writer, ok: bool) {
+    line.put(b' ');
+    line.put(if ok { b'1' } else { b'0' });
 }
 
 // The request, what the edits say, and the record as they left it.
 fn write_line<W: Write>(output: &mut W, request: &[u8], left: Twice) -> io::Result<()> {
-    let mut line = [0u8; LINE_SIZE];
-    let rec = left.rec;
-    let bytes = layout(rec);
-    let mut at = put_pairs(&mut line, 0, request, b"", b" ");
-    at = put(&mut line, at, b'=');
-    at = put_answer(&mut line, at, left.first);
-    at = put_answer(&mut line, at, left.second);
-    at = put_pairs(&mut line, at, &bytes, b" ", b"");
-    put(&mut line, at, b'\n');
-    output.write_all(&line)
+    let mut buf = [0u8; LINE_SIZE];
+    let mut line = Writer::new(&mut buf);
+    put_pairs(&mut line, request, b"", b" ");
+    line.put(b'=');
+    put_answer(&mut line, left.first);
+    put_answer(&mut line, left.second);
+    put_pairs(&mut line, &layout(left.rec), b" ", b"");
+    line.put(b'\n');
+    output.write_all(&buf)
 }
 
 // A request is answered in one line.
-fn answer<W: Write>(output: &mut W, r: &[u8]) -> io::Result<()>
-    requires { length r.now ≡ 17 }
+fn answer<W: Write>(output: &mut W, bytes: &[u8]) -> io::Result<()>
+    requires { length bytes.now ≡ 17 }
 {
-    let held = timing(&r[1..8]);
-    let more = timing(&r[8..15]);
-    let left = edited(r[0], record(held), more, r[15], r[16]);
-    write_line(output, r, left)
+    let request = Request::new(bytes);
+    write_line(output, bytes, request.edited(record(request.held)))
 }
 
 // As many bytes of requests as are read.
@@ -119,18 +135,8 @@ fn read_full<R: Read>(from: &mut R, input: &mut [u8]) -> usize
     ensures { result ≤ length input.old }
 {
     let mut done = 0;
-    while done < input.len() {
-        match from.read(&mut input[done..]) {
-            Ok(n) => {
-                if n == 0 {
-                    return done;
-                }
-                done += n;
-            }
-            Err(_) => {
-                return done;
-            }
-        }
+    while let Ok(n @ 1..) = from.read(&mut input[done..]) {
+        done += n;
     }
     done
 }
@@ -140,10 +146,8 @@ fn main(rt: HostRuntime) -> io::Result<()> {
     let mut input = [0u8; INPUT_MAX];
     let mut output = rt.stdout();
     let got = read_full(&mut rt.stdin(), &mut input);
-    let mut at = 0;
-    while REQUEST_SIZE <= got - at {
-        answer(&mut output, &input[at..at + REQUEST_SIZE])?;
-        at += REQUEST_SIZE;
+    for request in input[..got].chunks_exact(REQUEST_SIZE) {
+        answer(&mut output, request)?;
     }
     Ok(())
 }

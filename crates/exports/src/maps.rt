@@ -6,12 +6,13 @@ ghost use Rattle.marking.specs.Check.{check_of};
 ghost use Rattle.exports.specs.Modes.{bad_mode, mode_of};
 ghost use Rattle.flow.specs.Flow.{look_of};
 
-use super::modes::{BAD_MODE, is_bad_mode, mode_of};
+use super::modes::BAD_MODE;
 use answers::maps::tell;
 use rom::map_check;
+use table::Mode;
 
-// Whether a map meets the marking rules in a mode: the marks of an image, whose first byte stands at `origin`, and the entries, byte
-// pairs, low first.
+// Whether a map meets the marking rules in a mode: the marks of an image, whose first byte stands at `origin`, and
+// the entries, byte pairs, low first.
 pub fn z80_map_check(
     mode: u8,
     image: &[u8],
@@ -24,12 +25,11 @@ pub fn z80_map_check(
     ensures broken { address.new ≡ cond (bad_mode mode) 0 (address_of (check_of (look_of (mode_of mode)) (chart image.now origin marks.now) entries.now)) }
     ensures rules { bad_mode mode ≡ false → Verdict (look_of (mode_of mode)) (chart image.now origin marks.now) entries.now result address.new }
 {
-    if is_bad_mode(mode) {
+    let Ok(mode) = Mode::try_from(mode) else {
         *address = 0;
         return BAD_MODE;
-    }
-    let checked = map_check(mode_of(mode), image, origin, marks, entries);
-    let told = tell(checked);
+    };
+    let told = tell(map_check(mode, image, origin, marks, entries));
     *address = told.at as u32;
     told.number
 }

@@ -4,12 +4,13 @@ ghost use Rattle.table.specs.Chip.{decode_in};
 ghost use Rattle.exports.specs.Modes.{bad_mode, mode_of};
 ghost use Rattle.wording.specs.Answers.{outcome, text_outcome};
 
-use super::modes::{BAD_MODE, is_bad_mode, mode_of};
+use super::modes::BAD_MODE;
 use answers::texts::tell;
+use table::Mode;
 use text::text;
 
-// The chosen parts of the text of `ins`, decoded in a mode, to the front of `out`, their count, and how many bytes are missing where the decode is
-// Short.
+// The chosen parts of the text of `ins`, decoded in a mode, to the front of `out`, their count, and how many bytes
+// are missing where the decode is Short.
 pub fn z80_text(
     mode: u8,
     choice: u8,
@@ -20,13 +21,12 @@ pub fn z80_text(
 ) -> u8
     ensures { outcome result count.new missing.new out.new ≡ cond (bad_mode mode) (outcome 35 0 0 out.old) (text_outcome choice (decode_in (mode_of mode) ins.now) out.old) }
 {
-    if is_bad_mode(mode) {
+    let Ok(mode) = Mode::try_from(mode) else {
         *count = 0;
         *missing = 0;
         return BAD_MODE;
-    }
-    let written = text(mode_of(mode), choice, ins, out);
-    let told = tell(written);
+    };
+    let told = tell(text(mode, choice, ins, out));
     *count = told.count as u32;
     *missing = told.missing as u32;
     told.number

@@ -6,8 +6,8 @@ ghost use Rattle.marking.specs.Check.{check_of};
 ghost use Rattle.exports.specs.Modes.{bad_mode, mode_of};
 ghost use Rattle.flow.specs.Flow.{look_of};
 
-// Whether a map meets the marking rules in a mode: the marks of an image, whose first byte stands at `origin`, and the entries, byte
-// pairs, low first.
+// Whether a map meets the marking rules in a mode: the marks of an image, whose first byte stands at `origin`, and
+// the entries, byte pairs, low first.
 #[unsafe(no_mangle)]
 pub extern "C" fn z80_map_check(
     mode: u8,

@@ -3,8 +3,8 @@ ghost use Rattle.std.specs.Prelude.{◌≡◌, cond};
 ghost use Rattle.exports.specs.Modes.{bad_mode, mode_of};
 ghost use Rattle.listing.specs.Answers.{outcome, row_outcome};
 
-// The row at an address of the image, whose first byte stands at `origin`, in a mode: its line to the front of `out`, the line's count
-// and the bytes passed.
+// The row at an address of the image, whose first byte stands at `origin`, in a mode: its line to the front of
+// `out`, the line's count and the bytes passed.
 #[unsafe(no_mangle)]
 pub extern "C" fn z80_row(
     mode: u8,

@@ -4,8 +4,8 @@ ghost use Rattle.table.specs.Chip.{decode_in};
 ghost use Rattle.exports.specs.Modes.{bad_mode, mode_of};
 ghost use Rattle.wording.specs.Answers.{outcome, text_outcome};
 
-// The chosen parts of the text of `ins`, decoded in a mode, to the front of `out`, their count, and how many bytes are missing where the decode is
-// Short.
+// The chosen parts of the text of `ins`, decoded in a mode, to the front of `out`, their count, and how many bytes
+// are missing where the decode is Short.
 #[unsafe(no_mangle)]
 pub extern "C" fn z80_text(
     mode: u8,

@@ -1,16 +1,16 @@
 -- Demand 3 for this decoder, in either mode: the theorems of `marking` cited. Assumes nothing else than what a walk presumes.
 -- Presumed, by what a walk is (`marking`'s specs/Walk.antt): code is not written to (`step`), returns go back to where their calls left off (`back`), interrupts are not counted (`move`).
-use Rattle.std.proofs.Common.{◌≡◌, ℕ, ◌+◌, ◌<◌, ◌≤◌, Bool, ◌↔◌, List, [], refl, ap, arith}
+use Rattle.std.proofs.Common.{◌≡◌, ℕ, ◌+◌, ◌<◌, ◌≤◌, Bool, ◌↔◌, List, [], refl, ap}
 use Rattle.opcode.specs.declared.record.OpCode.{OpCode}
 use Rattle.table.specs.declared.Answer.{Answer}
 use Rattle.table.specs.declared.Mode.{Mode}
 use Rattle.table.specs.Chip.{decode_in}
 use Rattle.image.specs.Places.{window_at}
 use Rattle.marking.specs.declared.Flow.{Flow}
+use Rattle.std.specs.Prelude.{Option, None, Some}
 use Rattle.marking.specs.declared.View.{View}
-use Rattle.marking.specs.declared.Checked.{Checked}
-use Rattle.marking.specs.Rules.{Chart, entries, entry, RowAt, Passes}
-use Rattle.marking.specs.Verdict.{number_of, address_of, Verdict}
+use Rattle.marking.specs.Rules.{Chart, row_of, entries, entry, RowAt, Passes}
+use Rattle.marking.specs.Verdict.{Checked, number_of, address_of, Verdict}
 use Rattle.marking.specs.Walk.{State, standing, left, returned, lost, walk}
 use Rattle.marking.specs.Check.{check_of}
 use Rattle.marking.specs.Consequences.{Allowed}
@@ -23,15 +23,13 @@ use Rattle.flow.proofs.Sane.{sane}
 use Rattle.flow.proofs.Ends.{register_jumps}
 
 -- what is said of a window that is a row, and its flow
-abbrev flow_in : View → Flow
-flow_in View.Refused = Flow.After
-flow_in (View.Row n f) = f
+abbrev flow_in : Option View → Flow
+flow_in None = Flow.After
+flow_in (Some v) = v.flow
 
-seen : (x : Answer) (a : ℕ) (r : OpCode) (n : ℕ) (f : Flow) → view_by x a r ≡ View.Row n f → (x ≡ Answer.Done) × (flow_of a r ≡ f)
+seen : (x : Answer) (a : ℕ) (r : OpCode) (n : ℕ) (f : Flow) → view_by x a r ≡ row_of n f → (x ≡ Answer.Done) × (flow_of a r ≡ f)
 seen Answer.Done a r n f e = (refl, ap flow_in e)
-seen Answer.Nothing a r n f e = let z : ◌≡◌ {A = ℕ} 0 1 = cc e in absurd (omega arith)
-seen (Answer.Short k) a r n f e = let z : ◌≡◌ {A = ℕ} 0 1 = cc e in absurd (omega arith)
-seen Answer.Long a r n f e = let z : ◌≡◌ {A = ℕ} 0 1 = cc e in absurd (omega arith)
+seen x a r n f e = absurd (cc e)
 
 -- a walk that has left did so at a JP with HL, IX or IY
 leaves : (mode : Mode) (m : Chart) (s : State) → Allowed (look_of mode) m s → LeavesBy mode m s

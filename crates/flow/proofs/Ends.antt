@@ -1,8 +1,9 @@
 -- A decoded row that leads to a place it does not name is a JP whose first operand is HL, IX or IY: what the definitions say of other rows without a target is never met. Assumes nothing.
-use Rattle.std.proofs.Common.{◌≡◌, ℕ, Bool, true, ◌&&◌, T, eqb, List, sym, ap, subst, arith, eqb→eq}
+use Rattle.std.proofs.Common.{◌≡◌, ℕ, Bool, true, ◌&&◌, T, eqb, List, refl, sym, ap, subst, arith, eqb→eq}
 use denote.Enum.Declared.{tag_of}
 use Rattle.opcode.specs.contracts.instruction.Instruction.{the_type}
 use Rattle.opcode.specs.declared.instruction.Instruction.{Instruction}
+use Rattle.opcode.specs.declared.instruction.Instruction.TheVariants.{JP}
 use Rattle.opcode.specs.declared.operand.Place.{Place}
 use Rattle.opcode.specs.declared.record.OpCode.{OpCode}
 use Rattle.table.specs.declared.Answer.{Answer}
@@ -20,20 +21,16 @@ use Rattle.marking.specs.declared.Flow.{Flow}
 use Rattle.flow.specs.Flow.{lead_of, flow_by, flow_of}
 use Rattle.table.proofs.Pages.{both_left, both_right}
 use Rattle.flow.specs.Consequences.{has_pointer, ByRegister}
-use Rattle.flow.proofs.Jump.{is_jp}
+
+-- JP by its number among the instructions
+is_jp : (i : Instruction) → tag_of the_type i ≡ 27 → i ≡ JP
+is_jp JP e = refl
+is_jp i e = absurd (omega arith)
 
 -- a row that goes on so, with such an instruction and first operand, names where it leads, or is a JP with HL, IX or IY there
 abbrev told : Flow → Instruction → Place → Bool
-told Flow.After i p = true
-told (Flow.Jump t) i p = true
-told (Flow.Branch t) i p = true
-told (Flow.Call t) i p = true
-told (Flow.CallIf t) i p = true
-told (Flow.Restart t) i p = true
-told Flow.Return i p = true
-told Flow.ReturnIf i p = true
 told Flow.RegisterJump i p = eqb (tag_of the_type i) 27 && has_pointer p
-told Flow.Repeat i p = true
+told f i p = true
 
 module _ (a : ℕ) (s : List ℕ) where
   abbrev tells : Row → Bool
@@ -59,7 +56,7 @@ module _ (a : ℕ) (s : List ℕ) where
       }
 
   of_row : (x : Row) (d : List ℕ) → T (tells x) → flow_of a (record_of x s d) ≡ Flow.RegisterJump → ByRegister (record_of x s d)
-  of_row gap d w e = let z : ◌≡◌ {A = ℕ} 0 1 = cc e in absurd (omega arith)
+  of_row gap d w e = absurd (cc e)
   of_row (row i x y z n t) d w e =
       let v = subst (λ (f : Flow). T (told f i (read x s))) e w in
       record {

@@ -1,197 +1,83 @@
 // What DD and FD make of the record of the bytes behind them: DD names IX, FD names IY.
-ghost use Rattle.std.specs.Prelude.{◌≡◌, ◌≤◌, ◌+◌, cond, ◌||◌};
-ghost use Rattle.opcode.specs.declared.operand.Place.{Place};
-ghost use Rattle.table.specs.Families.{high, low};
-ghost use Rattle.table.specs.Prefix.{pair};
-ghost use Rattle.table.specs.Steps.{is_hl, half, is_half, is_imm8, named};
-ghost use Rattle.four_bytes.specs.Replaced.{addr_replaced, hl_replaced, addr_record, hl_record, lengthened, loaded, replaced};
+ghost use Rattle.std.specs.Prelude.{◌≡◌, ◌≤◌, ◌+◌};
+ghost use Rattle.table.specs.Steps.{named};
+ghost use Rattle.four_bytes.specs.Replaced.{addr_replaced, hl_replaced, operands_replaced, addr_record, hl_record, lengthened, loaded, replaced};
 
+use from_bytes::by_prefix;
+use opcode::counts::Bytes;
 use opcode::operand::{Operand, Place};
 use opcode::record::OpCode;
 use opcode::registers::{Reg8, Reg16};
 use opcode::timing::Timing;
-use stage::cycles::{t1, t3};
-use stage::operands::{index_addr, is_hl, is_hl_addr};
-use stage::rows::{Stage, change, pass};
+use stage::cycles::cycles;
+use stage::operands::index_addr;
+use stage::rows::{Stage, pass};
+use std::ops::ControlFlow;
 use timing::{tstates_insert, tstates_remove};
 
-// Whether an operand was replaced, and the operand as it then is.
-#[derive(Clone, Copy)]
-pub struct Replaced {
-    pub ok: bool,
-    pub op: Place,
-}
-
-fn index_pair(prefix: u8) -> Reg16
-    ensures { result ≡ pair (named prefix) }
-{
-    if prefix == 0xDD { Reg16::IX } else { Reg16::IY }
-}
-
-fn index_high(prefix: u8) -> Reg8
-    ensures { result ≡ high (named prefix) }
-{
-    if prefix == 0xDD { Reg8::IXh } else { Reg8::IYh }
-}
-
-fn index_low(prefix: u8) -> Reg8
-    ensures { result ≡ low (named prefix) }
-{
-    if prefix == 0xDD { Reg8::IXl } else { Reg8::IYl }
-}
-
-fn either(a: bool, b: bool) -> bool
-    ensures { result ≡ (a || b) }
-{
-    if a {
-        return true;
-    }
-    b
-}
-
 // (HL) becomes (IX+d).
-fn replace_hl_addr_op(op: Operand, prefix: u8, d: u8) -> Replaced
-    ensures { result ≡ addr_replaced (named prefix) d (Place.Of op) }
+fn replace_hl_addr_op(op: Place, prefix: u8, d: u8) -> Option<Place>
+    ensures { result ≡ addr_replaced (named prefix) d op }
 {
-    if is_hl_addr(op) {
-        return Replaced {
-            ok: true,
-            op: Place::Of(index_addr(prefix, d)),
-        };
+    match op {
+        Place::Of(Operand::RegAddr(Reg16::HL)) => Some(Place::Of(index_addr(prefix, d))),
+        _ => None,
     }
-    Replaced {
-        ok: false,
-        op: Place::Of(op),
-    }
-}
-
-fn replace_hl_addr_place(p: Place, prefix: u8, d: u8) -> Replaced
-    ensures { result ≡ addr_replaced (named prefix) d p }
-{
-    match p {
-        Place::Empty => Replaced {
-            ok: false,
-            op: Place::Empty,
-        },
-        Place::Of(op) => replace_hl_addr_op(op, prefix, d),
-    }
-}
-
-fn replace_hl_addr(rec: OpCode, prefix: u8, d: u8) -> Stage
-    ensures { result ≡ addr_record (named prefix) d rec }
-{
-    let length = rec.length;
-    let ins = rec.ins;
-    let op1 = rec.op1;
-    let op2 = rec.op2;
-    let o1 = replace_hl_addr_place(op1, prefix, d);
-    let o2 = replace_hl_addr_place(op2, prefix, d);
-    let first = o1.op;
-    let second = o2.op;
-    Stage {
-        ok: either(o1.ok, o2.ok),
-        rec: change(rec, length.0, ins, first, second),
-    }
-}
-
-// Is it H or L?
-fn is_half(r: Reg8) -> bool
-    ensures { result ≡ is_half r }
-{
-    match r {
-        Reg8::A => false,
-        Reg8::B => false,
-        Reg8::C => false,
-        Reg8::D => false,
-        Reg8::E => false,
-        Reg8::H => true,
-        Reg8::L => true,
-        Reg8::IXh => false,
-        Reg8::IXl => false,
-        Reg8::IYh => false,
-        Reg8::IYl => false,
-        Reg8::I => false,
-        Reg8::R => false,
-    }
-}
-
-// H and L become the index register's halves.
-fn replace_half(r: Reg8, prefix: u8) -> Reg8
-    ensures { result ≡ half (named prefix) r }
-{
-    match r {
-        Reg8::A => Reg8::A,
-        Reg8::B => Reg8::B,
-        Reg8::C => Reg8::C,
-        Reg8::D => Reg8::D,
-        Reg8::E => Reg8::E,
-        Reg8::H => index_high(prefix),
-        Reg8::L => index_low(prefix),
-        Reg8::IXh => Reg8::IXh,
-        Reg8::IXl => Reg8::IXl,
-        Reg8::IYh => Reg8::IYh,
-        Reg8::IYl => Reg8::IYl,
-        Reg8::I => Reg8::I,
-        Reg8::R => Reg8::R,
-    }
-}
-
-fn replace_pair(q: Reg16, prefix: u8) -> Reg16
-    ensures { result ≡ cond (is_hl q) (pair (named prefix)) q }
-{
-    if is_hl(q) {
-        return index_pair(prefix);
-    }
-    q
 }
 
 // HL, H and L become IX, IXh and IXl.
-fn replace_hl_op(op: Operand, prefix: u8) -> Replaced
-    ensures { result ≡ hl_replaced (named prefix) (Place.Of op) }
+fn replace_hl_op(op: Place, prefix: u8) -> Option<Place>
+    ensures { result ≡ hl_replaced (named prefix) op }
 {
-    match op {
-        Operand::Reg8(r) => Replaced {
-            ok: is_half(r),
-            op: Place::Of(Operand::Reg8(replace_half(r, prefix))),
-        },
-        Operand::Reg16(q) => Replaced {
-            ok: is_hl(q),
-            op: Place::Of(Operand::Reg16(replace_pair(q, prefix))),
-        },
-        _ => Replaced {
-            ok: false,
-            op: Place::Of(op),
-        },
+    let indexed = match op {
+        Place::Of(Operand::Reg16(Reg16::HL)) => {
+            Operand::Reg16(by_prefix(prefix, Reg16::IX, Reg16::IY))
+        }
+        Place::Of(Operand::Reg8(Reg8::H)) => {
+            Operand::Reg8(by_prefix(prefix, Reg8::IXh, Reg8::IYh))
+        }
+        Place::Of(Operand::Reg8(Reg8::L)) => {
+            Operand::Reg8(by_prefix(prefix, Reg8::IXl, Reg8::IYl))
+        }
+        _ => return None,
+    };
+    Some(Place::Of(indexed))
+}
+
+// The record with what its first two operands become, where one of them is replaced.
+fn with_operands(rec: OpCode, op1: Option<Place>, op2: Option<Place>) -> Option<OpCode>
+    ensures { result ≡ operands_replaced rec op1 op2 }
+{
+    match (op1, op2) {
+        (None, None) => None,
+        _ => Some(OpCode {
+            op1: op1.unwrap_or(rec.op1),
+            op2: op2.unwrap_or(rec.op2),
+            ..rec
+        }),
     }
 }
 
-fn replace_hl_place(p: Place, prefix: u8) -> Replaced
-    ensures { result ≡ hl_replaced (named prefix) p }
+#[tactic(auto, using(crate::proofs::Prefixed::addr_records))]
+fn replace_hl_addr(rec: OpCode, prefix: u8, d: u8) -> Option<OpCode>
+    ensures { result ≡ addr_record (named prefix) d rec }
 {
-    match p {
-        Place::Empty => Replaced {
-            ok: false,
-            op: Place::Empty,
-        },
-        Place::Of(op) => replace_hl_op(op, prefix),
-    }
+    with_operands(
+        rec,
+        replace_hl_addr_op(rec.op1, prefix, d),
+        replace_hl_addr_op(rec.op2, prefix, d),
+    )
 }
 
-fn replace_hl(rec: OpCode, prefix: u8) -> Stage
+#[tactic(auto, using(crate::proofs::Prefixed::hl_records))]
+fn replace_hl(rec: OpCode, prefix: u8) -> Option<OpCode>
     ensures { result ≡ hl_record (named prefix) rec }
 {
-    let length = rec.length;
-    let ins = rec.ins;
-    let op1 = rec.op1;
-    let op2 = rec.op2;
-    let o1 = replace_hl_place(op1, prefix);
-    let o2 = replace_hl_place(op2, prefix);
-    let first = o1.op;
-    let second = o2.op;
-    Stage {
-        ok: either(o1.ok, o2.ok),
-        rec: change(rec, length.0, ins, first, second),
-    }
+    with_operands(
+        rec,
+        replace_hl_op(rec.op1, prefix),
+        replace_hl_op(rec.op2, prefix),
+    )
 }
 
 // The prefix makes the row longer, and its cycles come after the first.
@@ -199,85 +85,44 @@ fn lengthen(rec: OpCode, bytes: u8, t: Timing) -> OpCode
     requires { rec.length.0 + bytes ≤ 6 }
     ensures { result ≡ lengthened rec bytes t }
 {
-    let length = rec.length;
-    let ins = rec.ins;
-    let op1 = rec.op1;
-    let op2 = rec.op2;
-    let longer = change(rec, length.0 + bytes, ins, op1, op2);
-    let timed = tstates_insert(longer, 1, t);
-    timed.rec
-}
-
-fn is_imm8(p: Place) -> bool
-    ensures { result ≡ is_imm8 p }
-{
-    match p {
-        Place::Empty => false,
-        Place::Of(o) => is_imm8_op(o),
-    }
-}
-
-fn is_imm8_op(o: Operand) -> bool
-    ensures { result ≡ is_imm8 (Place.Of o) }
-{
-    match o {
-        Operand::Imm8(_) => true,
-        Operand::Imm16(_) => false,
-        Operand::RelAddr(_) => false,
-        Operand::Address(_) => false,
-        Operand::IOAddress(_) => false,
-        Operand::RegI(_) => false,
-        Operand::Reg8(_) => false,
-        Operand::Reg16(_) => false,
-        Operand::RegAddr(_) => false,
-        Operand::RegIOAddr(_) => false,
-        Operand::FlagCondition(_) => false,
-        Operand::IgnoreIO => false,
-    }
+    let longer = OpCode {
+        length: Bytes(rec.length.0 + bytes),
+        ..rec
+    };
+    let (Ok(timed) | Err(timed)) = tstates_insert(longer, 1, t);
+    timed
 }
 
 // LD (IX+d),n takes n from the fourth byte and loses its sixth cycle.
 fn fix_load(rec: OpCode, n: u8) -> OpCode
     ensures { result ≡ loaded n rec }
 {
-    let op2 = rec.op2;
-    if !is_imm8(op2) {
+    let Place::Of(Operand::Imm8(_)) = rec.op2 else {
         return rec;
-    }
-    let length = rec.length;
-    let ins = rec.ins;
-    let op1 = rec.op1;
-    let taken = change(rec, length.0, ins, op1, Place::Of(Operand::Imm8(n)));
-    let shorter = tstates_remove(taken, 5);
-    shorter.rec
+    };
+    let taken = OpCode {
+        op2: Place::Of(Operand::Imm8(n)),
+        ..rec
+    };
+    let (Ok(shorter) | Err(shorter)) = tstates_remove(taken, 5);
+    shorter
 }
 
-// What `disas_dd_fd_prefix` makes of the record of the bytes behind the prefix. Where nothing is to be replaced it is left as it
-// is and not taken, and so is one that no row makes, of more than four bytes.
+// What `disas_dd_fd_prefix` makes of the record of the bytes behind the prefix. Where nothing is to be replaced it is
+// left as it is and not taken, and so is one that no row makes, of more than four bytes.
 #[tactic(auto, unfolding(crate::specs::Replaced::replaced))]
 pub fn replace(rec: OpCode, prefix: u8, d: u8, n: u8) -> Stage
     ensures { result ≡ replaced (named prefix) d n rec }
 {
-    let length = rec.length;
-    if 4 < length.0 {
+    if 4 < rec.length.0 {
         return pass(rec);
     }
-    let indexed = replace_hl_addr(rec, prefix, d);
-    if indexed.ok {
-        let addressed = indexed.rec;
-        let longer = lengthen(addressed, 2, t3(4, 3, 5));
-        return Stage {
-            ok: true,
-            rec: fix_load(longer, n),
-        };
+    if let Some(addressed) = replace_hl_addr(rec, prefix, d) {
+        let longer = lengthen(addressed, 2, cycles(&[4, 3, 5]));
+        return ControlFlow::Break(fix_load(longer, n));
     }
-    let renamed = replace_hl(rec, prefix);
-    if renamed.ok {
-        let named = renamed.rec;
-        return Stage {
-            ok: true,
-            rec: lengthen(named, 1, t1(4)),
-        };
+    if let Some(named) = replace_hl(rec, prefix) {
+        return ControlFlow::Break(lengthen(named, 1, cycles(&[4])));
     }
     pass(rec)
 }

@@ -1,8 +1,8 @@
-// Places of an image, whose first byte stands at the address `origin`.
+// An image, whose first byte stands at the address `origin`, and its places.
 #![tactic(auto)]
 
-ghost use Rattle.std.specs.Prelude.{◌≡◌, ◌+◌, ◌-◌, min};
-ghost use Rattle.image.specs.Places.{wrong_size, outside};
+ghost use Rattle.std.specs.Prelude.{◌≡◌, ℕ, ◌+◌, ◌%◌, ◌<◌, ◌≤◌, IfSome, is_none, length, drop, slice_index};
+ghost use Rattle.image.specs.Places.{wrong_size, outside, window};
 
 // The addresses that there are: an image ends with the last of them at the latest.
 const ADDRESSES: usize = 65536;
@@ -10,35 +10,52 @@ const ADDRESSES: usize = 65536;
 // The most bytes that are looked at.
 const WINDOW_MAX: usize = 4;
 
-// 5, ImageSize: the image is empty or goes beyond the last address.
-pub fn is_wrong_size(image: &[u8], origin: u16) -> bool
-    ensures { result ≡ wrong_size image.now origin }
-{
-    if image.len() == 0 {
-        return true;
-    }
-    ADDRESSES - (origin as usize) < image.len()
+// The bytes of an image of a right size.
+#[derive(Clone, Copy)]
+pub struct Image<'a> {
+    pub bytes: &'a [u8],
+    pub origin: u16,
+    ghost some: { 0 < length bytes.now },
+    ghost fits: { origin + length bytes.now ≤ 65536 },
+    // What a slice's type says is not known of one in a struct.
+    ghost bytes_fit: { (k : ℕ) → slice_index bytes.now k < 256 },
 }
 
-// 1, Nothing: the address is outside the image.
-pub fn is_outside(image: &[u8], origin: u16, address: u16) -> bool
-    ensures { result ≡ outside image.now origin address }
-{
-    if address < origin {
-        return true;
+impl<'a> Image<'a> {
+    // None is 5, ImageSize: no bytes, or some beyond the last address.
+    pub fn new(bytes: &'a [u8], origin: u16) -> Option<Image<'a>>
+        ensures refused { is_none result ≡ wrong_size bytes.now origin }
+        ensures made { IfSome result (λ image. (image.bytes.now ≡ bytes.now) × (image.origin ≡ origin)) }
+    {
+        if bytes.is_empty() || ADDRESSES - usize::from(origin) < bytes.len() {
+            return None;
+        }
+        Some(Image { bytes, origin })
     }
-    image.len() <= (address - origin) as usize
+
+    // The place of an address. None is 1, Nothing: it is outside the image.
+    pub fn place_of(&self, address: u16) -> Option<usize>
+        ensures refused { is_none result ≡ outside self.now.bytes.now self.now.origin address }
+        ensures inside { IfSome result (λ place. place < length self.now.bytes.now) }
+        ensures found { IfSome result (λ place. self.now.origin + place ≡ address) }
+    {
+        let place = usize::from(address.checked_sub(self.origin)?);
+        (place < self.bytes.len()).then_some(place)
+    }
+
+    // The address of a place; places count on behind the last address.
+    pub fn address_of(&self, place: usize) -> u16
+        ensures counted { result ≡ (self.now.origin + place) % 65536 }
+        ensures inside { place < length self.now.bytes.now → result ≡ self.now.origin + place }
+    {
+        self.origin.wrapping_add((place % ADDRESSES) as u16)
+    }
 }
 
-// The end of the bytes that are looked at at a place: up to four, none past the image's end, and behind it none.
-pub fn window_end(place: usize, length: usize) -> usize
-    ensures { result ≡ place + min 4 (length - place) }
+// The bytes that are looked at at a place: up to four, none past the end, and behind it none.
+pub fn window_of(bytes: &[u8], place: usize) -> &[u8]
+    ensures { result.now ≡ window (drop place bytes.now) }
 {
-    if length <= place {
-        return place;
-    }
-    if length - place < WINDOW_MAX {
-        return length;
-    }
-    place + WINDOW_MAX
+    let rest = &bytes[place.min(bytes.len())..];
+    &rest[..rest.len().min(WINDOW_MAX)]
 }

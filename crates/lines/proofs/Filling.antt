@@ -15,8 +15,8 @@ use Rattle.writer.proofs.Laws.{◌▸◌, none, counted, whole}
 use Rattle.image.specs.Places.{window}
 use Rattle.listing.specs.Rows.{line_of, passed_of, Row, row_at, listing, printed, joined}
 use Rattle.listing.specs.Page.{page}
-use Rattle.listing.proofs.Passed.{passed_least, passed_within}
-use Rattle.listing.proofs.Page.{page_next, page_full, page_none, passed_bytes}
+use Rattle.listing.proofs.Passed.{passed_within}
+use Rattle.listing.proofs.Page.{page_next, page_full, page_none, page_some, passed_bytes}
 
 module _ (mode : Mode) where
   module _ (image : List ℕ) (origin start : ℕ) (old : List ℕ) where
@@ -130,10 +130,7 @@ module _ (mode : Mode) where
       full e = page_full mode (length old) (origin + start) front front_any (leb-false first (length old) e)
 
       passes_some : first ≤ length old → 1 ≤ length (joined (onwards start (length old)))
-      passes_some room =
-          let p = passed_of mode (window front) in
-          let rest = page (length old - first) (listing mode (origin + start + p) (drop p front)) in
-          omega (arith, ap (λ (rs : List Row). length (joined rs)) (page_next mode (length old) (origin + start) front front_any room), length-append (take p front) (joined rest), passed_bytes mode front front_any, passed_least mode (window front))
+      passes_some room = page_some mode (length old) (origin + start) front front_any room
 
       none_by : (t : Bool) → leb first (length old) ≡ t → length (joined (onwards start (length old))) ≡ 0 → t ≡ false
       none_by true e none = absurd (omega (arith, passes_some (leb-true first (length old) e), none))

@@ -5,16 +5,12 @@ ghost use Rattle.std.specs.Prelude.{◌≡◌};
 ghost use Rattle.marking.specs.Links.{after as after_of, to as to_of, links as links_of, listed};
 
 use marking::{Flow, Link, Links, Word};
-use std::num::wrapping_add_u16;
 
 // To the place after a row of so many bytes.
 fn after(address: u16, length: u8) -> Link
     ensures { result ≡ after_of address length }
 {
-    Link {
-        word: Word::After,
-        place: wrapping_add_u16(address, length as u16),
-    }
+    to(Word::After, address.wrapping_add(u16::from(length)))
 }
 
 fn to(word: Word, place: u16) -> Link
@@ -29,15 +25,12 @@ pub fn links(address: u16, length: u8, flow: Flow) -> Links
 {
     let on = after(address, length);
     match flow {
-        Flow::After => Links::One(on),
+        Flow::After | Flow::ReturnIf => Links::One(on),
         Flow::Jump(t) => Links::One(to(Word::Jump, t)),
         Flow::Branch(t) => Links::Two(on, to(Word::Jump, t)),
-        Flow::Call(t) => Links::Two(on, to(Word::Call, t)),
-        Flow::CallIf(t) => Links::Two(on, to(Word::Call, t)),
+        Flow::Call(t) | Flow::CallIf(t) => Links::Two(on, to(Word::Call, t)),
         Flow::Restart(t) => Links::Two(on, to(Word::Restart, t)),
-        Flow::Return => Links::None,
-        Flow::ReturnIf => Links::One(on),
-        Flow::RegisterJump => Links::None,
+        Flow::Return | Flow::RegisterJump => Links::None,
         Flow::Repeat => Links::Two(on, to(Word::Jump, address)),
     }
 }

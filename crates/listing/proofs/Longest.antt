@@ -1,11 +1,12 @@
 -- No line is longer than 58 bytes, and no more than four bytes are passed. Assumes nothing.
 use mathlib.Core.Path.{◌≡◌, refl}
-use Prim.Native.Nat.{ℕ, zero, suc, ◌-◌, ◌≤◌}
+use Prim.Native.Nat.{ℕ, ◌-◌, ◌≤◌}
 use native.Mathlib.Omega.{arith}
 use mathlib.Core.Bool.{Bool}
-use mathlib.Core.List.{List, [], ◌∷◌}
+use mathlib.Core.List.{List}
 use lib.Dec.{leb}
-use lib.ListN.{length, take, drop, length-append}
+use lib.ListN.{length, take, drop, length-append, length-take}
+use Rattle.std.proofs.lemmas.List.{get_or-take, get_or_past}
 use Rattle.table.specs.declared.Mode.{Mode}
 use Rattle.opcode.specs.declared.record.OpCode.{OpCode}
 use Rattle.table.specs.declared.Answer.{Answer}
@@ -43,10 +44,7 @@ module _ (mode : Mode) where
 
   -- a window of bytes has bytes
   take_bytes : (n : ℕ) (s : List ℕ) → AllBytes s → AllBytes (take n s)
-  take_bytes zero s bytes k = omega arith
-  take_bytes (suc n) [] bytes k = bytes k
-  take_bytes (suc n) (b ∷ s) bytes zero = bytes 0
-  take_bytes (suc n) (b ∷ s) bytes (suc k) = take_bytes n s (λ j. bytes (suc j)) k
+  take_bytes n s bytes k = grind (arith, get_or-take, get_or_past, length-take, bytes k)
 
   pub window_bytes : (k : ℕ) (image : List ℕ) → AllBytes image → AllBytes (window (drop k image))
   window_bytes k image bytes = take_bytes 4 (drop k image) (drop_bytes k image bytes)

@@ -1,6 +1,6 @@
 -- Pages: the rows that are written to some room, what is left for the next, and how much is answered. Assumes nothing.
 use mathlib.Core.Path.{◌≡◌, refl, sym, ap, subst, ◌∙◌}
-use mathlib.Core.Bool.{Bool, true, false}
+use mathlib.Core.Bool.{Bool, true, false, cond}
 use mathlib.Core.List.{List, [], ◌∷◌, ◌++◌, append_assoc}
 use Prim.Native.Nat.{ℕ, zero, suc, ◌+◌, ◌-◌, ◌<◌, ◌≤◌}
 use native.Mathlib.Omega.{arith}
@@ -12,8 +12,8 @@ use Rattle.table.specs.declared.Mode.{Mode}
 use Rattle.table.proofs.Pages.{chosen}
 use Rattle.image.specs.Places.{wrong_size, outside, window, window_at}
 use Rattle.listing.specs.Rows.{line_of, passed_of, Row, row_at, listing, printed, joined}
-use Rattle.listing.specs.Answers.{Outcome}
-use Rattle.listing.specs.Page.{page, rows_outcome}
+use Rattle.listing.specs.Answers.{Outcome, outcome}
+use Rattle.listing.specs.Page.{page, page_at, written, rows_outcome}
 use Rattle.listing.proofs.Passed.{passed_least, passed_within}
 use Rattle.listing.proofs.Listing.{listing_next, bytes_joined}
 
@@ -35,6 +35,13 @@ module _ (mode : Mode) where
   -- the bytes of a row are as many as it passes
   pub passed_bytes : (s : List ℕ) → 1 ≤ length s → length (take (passed_of mode (window s)) s) ≡ passed_of mode (window s)
   passed_bytes s some = omega (arith, passed_within mode s some, length-take (passed_of mode (window s)) s)
+
+  -- a page on which the first line fits passes some
+  pub page_some : (room a : ℕ) (s : List ℕ) → 1 ≤ length s → length (line_of mode a (window s)) ≤ room → 1 ≤ length (joined (page room (listing mode a s)))
+  page_some room a s some enough =
+      let p = passed_of mode (window s) in
+      let rest = page (room - length (line_of mode a (window s))) (listing mode (a + p) (drop p s)) in
+      omega (arith, ap (λ (rs : List Row). length (joined rs)) (page_next room a s some enough), length-append (take p s) (joined rest), passed_bytes s some, passed_least mode (window s))
 
   -- a page, and the lines of what its rows do not pass, are all lines
   abbrev pub Splits : ℕ → List ℕ → List Row → Type 0
@@ -110,3 +117,14 @@ module _ (mode : Mode) where
         chosen (λ (o : Outcome). o.passed ≤ length image - (address - origin)) (wrong_size image origin) _ _ (omega arith)
         (chosen (λ (o : Outcome). o.passed ≤ length image - (address - origin)) (outside image origin address) _ _ (omega arith)
         (chosen (λ (o : Outcome). o.passed ≤ length image - (address - origin)) fits _ _ most (omega arith)))
+
+    -- where rows are written they pass some
+    some_by : (t : Bool) → fits ≡ t → 1 ≤ length (drop (address - origin) image) → (cond t (written (page_at mode image origin address out) out) (outcome 4 0 0 out)).number ≡ 0 → 1 ≤ (cond t (written (page_at mode image origin address out) out) (outcome 4 0 0 out)).passed
+    some_by true e inside done = page_some (length out) address (drop (address - origin) image) inside (leb-true _ (length out) e)
+    some_by false e inside done = absurd (omega (arith, done))
+
+    pub rows_some : 1 ≤ length (drop (address - origin) image) → (rows_outcome mode image origin address out).number ≡ 0 → 1 ≤ (rows_outcome mode image origin address out).passed
+    rows_some inside =
+        chosen (λ (o : Outcome). o.number ≡ 0 → 1 ≤ o.passed) (wrong_size image origin) _ _ (λ done. absurd (omega (arith, done)))
+        (chosen (λ (o : Outcome). o.number ≡ 0 → 1 ≤ o.passed) (outside image origin address) _ _ (λ done. absurd (omega (arith, done)))
+        (some_by fits refl inside))

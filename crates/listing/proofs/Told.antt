@@ -3,21 +3,23 @@ use mathlib.Core.Path.{◌≡◌, refl, sym, ap, ◌∙◌}
 use mathlib.Core.Bool.{cond}
 use mathlib.Core.List.{List}
 use Prim.Native.Nat.{ℕ}
+use Rattle.std.specs.Prelude.{Result, Ok, Err}
 use lib.Dec.{eqb}
-use Rattle.listing.specs.declared.Listed.{Listed}
+use Rattle.listing.specs.declared.Lines.{Lines}
+use Rattle.listing.specs.declared.ListingRefusal.{ListingRefusal}
 use Rattle.listing.specs.Answers.{Outcome, told_by}
 
-abbrev answer_of : Outcome → Listed
+abbrev answer_of : Outcome → Result Lines ListingRefusal
 answer_of o =
-    cond (eqb o.number 0) (Listed.Done o.count o.passed)
-    (cond (eqb o.number 5) Listed.ImageSize
-    (cond (eqb o.number 1) Listed.Nothing Listed.NoRoom))
+    cond (eqb o.number 0) (Ok (record { count = o.count; passed = o.passed }))
+    (cond (eqb o.number 5) (Err ListingRefusal.ImageSize)
+    (cond (eqb o.number 1) (Err ListingRefusal.Nothing) (Err ListingRefusal.NoRoom)))
 
-found : (l : Listed) (out : List ℕ) → answer_of (told_by l out) ≡ l
-found (Listed.Done n p) out = refl
-found Listed.ImageSize out = refl
-found Listed.Nothing out = refl
-found Listed.NoRoom out = refl
+found : (l : Result Lines ListingRefusal) (out : List ℕ) → answer_of (told_by l out) ≡ l
+found (Ok l) out = refl
+found (Err ListingRefusal.ImageSize) out = refl
+found (Err ListingRefusal.Nothing) out = refl
+found (Err ListingRefusal.NoRoom) out = refl
 
-pub one_answer : (k l : Listed) (x y : List ℕ) → told_by k x ≡ told_by l y → k ≡ l
+pub one_answer : (k l : Result Lines ListingRefusal) (x y : List ℕ) → told_by k x ≡ told_by l y → k ≡ l
 one_answer k l x y e = sym (found k x) ∙ ap answer_of e ∙ found l y

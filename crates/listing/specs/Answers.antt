@@ -1,30 +1,27 @@
 -- What listing a row answers, in document 01's numbers, and the lent bytes as it leaves them. Definitions only.
-use Rattle.std.specs.Prelude.{ℕ, cond, List, ◌++◌, leb, length, drop}
+use Rattle.std.specs.Prelude.{ℕ, Result, Ok, Err, cond, List, ◌++◌, leb, length, drop}
 use Rattle.table.specs.declared.Mode.{Mode}
-use Rattle.listing.specs.declared.Listed.{Listed}
+use Rattle.listing.specs.declared.Lines.{Lines}
+use Rattle.listing.specs.declared.ListingRefusal.{ListingRefusal}
 use Rattle.image.specs.Places.{wrong_size, outside, window_at}
 use Rattle.listing.specs.Rows.{line_of, passed_of}
 
 -- document 01's number of each answer
-abbrev pub number_of : Listed → ℕ
-number_of (Listed.Done n p) = 0
-number_of Listed.ImageSize = 5
-number_of Listed.Nothing = 1
-number_of Listed.NoRoom = 4
+abbrev pub number_of : Result Lines ListingRefusal → ℕ
+number_of (Ok l) = 0
+number_of (Err ListingRefusal.ImageSize) = 5
+number_of (Err ListingRefusal.Nothing) = 1
+number_of (Err ListingRefusal.NoRoom) = 4
 
 -- the count it returns: zero on a refusal
-abbrev pub count_of : Listed → ℕ
-count_of (Listed.Done n p) = n
-count_of Listed.ImageSize = 0
-count_of Listed.Nothing = 0
-count_of Listed.NoRoom = 0
+abbrev pub count_of : Result Lines ListingRefusal → ℕ
+count_of (Ok l) = l.count
+count_of (Err r) = 0
 
 -- the bytes passed that it returns: zero on a refusal
-abbrev pub passed_over : Listed → ℕ
-passed_over (Listed.Done n p) = p
-passed_over Listed.ImageSize = 0
-passed_over Listed.Nothing = 0
-passed_over Listed.NoRoom = 0
+abbrev pub passed_over : Result Lines ListingRefusal → ℕ
+passed_over (Ok l) = l.passed
+passed_over (Err r) = 0
 
 -- what a host is told of listing rows, in document 01's numbers, and the lent bytes then
 pub record Outcome : Type 0 where
@@ -37,7 +34,7 @@ abbrev pub outcome : ℕ → ℕ → ℕ → List ℕ → Outcome
 outcome n c p out = record { number = n; count = c; passed = p; bytes = out }
 
 -- by an answer that leaves these bytes
-abbrev pub told_by : Listed → List ℕ → Outcome
+abbrev pub told_by : Result Lines ListingRefusal → List ℕ → Outcome
 told_by l out = outcome (number_of l) (count_of l) (passed_over l) out
 
 -- a line of a row that passes p bytes: where it is no longer than the lent bytes it stands at their front, those behind it as they were; else 4, NoRoom, and all as they were

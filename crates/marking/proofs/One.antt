@@ -6,18 +6,19 @@ use mathlib.Core.Bool.{cond}
 use mathlib.Core.List.{List}
 use mathlib.Core.Logic.{inl, inr, ⊎_elim, ◌↔◌}
 use lib.Dec.{eqb}
-use Rattle.marking.specs.declared.Checked.{Checked}
+use Rattle.std.specs.Prelude.{Ok, Err}
+use Rattle.std.proofs.lemmas.Bool.{cases_lt}
+use Rattle.marking.specs.declared.MapRefusal.{MapRefusal}
 use Rattle.marking.specs.Rules.{Look, Sane, Chart, entry, MarkValue, EntryNotStart, Passes}
-use Rattle.marking.specs.Verdict.{number_of, address_of, InOrder, Lowest, Some, Broken, unfinished, clipped, stray, bad_next, AnyAt, Verdict}
+use Rattle.marking.specs.Verdict.{Checked, number_of, address_of, InOrder, Lowest, Some, Broken, unfinished, clipped, stray, bad_next, AnyAt, Verdict}
 use Rattle.marking.specs.Check.{check_of}
-use Rattle.marking.proofs.Tests.{less_or}
 use Rattle.marking.proofs.Passing.{shut_out}
 use Rattle.marking.proofs.Right.{check_right}
 
 -- the lowest is one
 pub lowest_one : {p : ℕ → Type 0} (j k : ℕ) → Lowest p j → Lowest p k → j ≡ k
 lowest_one j k x y =
-    ⊎_elim (λ lt. absurd (y.below j lt x.holds)) (λ ge. ⊎_elim (λ lt. absurd (x.below k lt y.holds)) (λ le. omega arith) (less_or k j)) (less_or j k)
+    ⊎_elim (λ lt. absurd (y.below j lt x.holds)) (λ ge. ⊎_elim (λ lt. absurd (x.below k lt y.holds)) (λ le. omega arith) (cases_lt k j)) (cases_lt j k)
 
 -- what tests in order decide is one, if what each of them decides is
 one_by_one : {R D D' N N' C : Type 0} → (D → D' → C) → (N → N' → C) → InOrder R D N → InOrder R D' N' → C
@@ -56,28 +57,28 @@ module _ (look : Look) (m : Chart) (es : List ℕ) where
 -- an answer by its number and address
 abbrev answer_by : ℕ → ℕ → Checked
 answer_by n a =
-    cond (eqb n 0) Checked.Done
-    (cond (eqb n 5) Checked.ImageSize
-    (cond (eqb n 6) Checked.MarkSize
-    (cond (eqb n 7) Checked.EntryCount
-    (cond (eqb n 8) (Checked.MarkValue a)
-    (cond (eqb n 9) (Checked.EntryNotStart a)
-    (cond (eqb n 10) (Checked.Unfinished a)
-    (cond (eqb n 11) (Checked.Clipped a)
-    (cond (eqb n 12) (Checked.Stray a) (Checked.BadNext a)))))))))
+    cond (eqb n 0) (Ok tt)
+    (cond (eqb n 5) (Err MapRefusal.ImageSize)
+    (cond (eqb n 6) (Err MapRefusal.MarkSize)
+    (cond (eqb n 7) (Err MapRefusal.EntryCount)
+    (cond (eqb n 8) (Err (MapRefusal.MarkValue a))
+    (cond (eqb n 9) (Err (MapRefusal.EntryNotStart a))
+    (cond (eqb n 10) (Err (MapRefusal.Unfinished a))
+    (cond (eqb n 11) (Err (MapRefusal.Clipped a))
+    (cond (eqb n 12) (Err (MapRefusal.Stray a)) (Err (MapRefusal.BadNext a))))))))))
 
 -- number and address tell the answer
 told_by_lem : (x : Checked) → answer_by (number_of x) (address_of x) ≡ x
-told_by_lem Checked.Done = refl
-told_by_lem Checked.ImageSize = refl
-told_by_lem Checked.MarkSize = refl
-told_by_lem Checked.EntryCount = refl
-told_by_lem (Checked.MarkValue a) = refl
-told_by_lem (Checked.EntryNotStart a) = refl
-told_by_lem (Checked.Unfinished a) = refl
-told_by_lem (Checked.Clipped a) = refl
-told_by_lem (Checked.Stray a) = refl
-told_by_lem (Checked.BadNext a) = refl
+told_by_lem (Ok done) = refl
+told_by_lem (Err MapRefusal.ImageSize) = refl
+told_by_lem (Err MapRefusal.MarkSize) = refl
+told_by_lem (Err MapRefusal.EntryCount) = refl
+told_by_lem (Err (MapRefusal.MarkValue a)) = refl
+told_by_lem (Err (MapRefusal.EntryNotStart a)) = refl
+told_by_lem (Err (MapRefusal.Unfinished a)) = refl
+told_by_lem (Err (MapRefusal.Clipped a)) = refl
+told_by_lem (Err (MapRefusal.Stray a)) = refl
+told_by_lem (Err (MapRefusal.BadNext a)) = refl
 
 pub answer_told : (x y : Checked) → number_of x ≡ number_of y → address_of x ≡ address_of y → x ≡ y
 answer_told x y n a = sym (told_by_lem x) ∙ rw (n, a) (told_by_lem y)
@@ -127,5 +128,5 @@ module _ (look : Look) (sane : Sane look) (m : Chart) (es : List ℕ) where
   pub done_exactly : (number_of (check_of look m es) ≡ 0) ↔ Passes look m es
   done_exactly = (
     verdict_passes look m es (number_of (check_of look m es)) (address_of (check_of look m es)) (check_right look sane m es),
-    λ p. ap number_of (sym (check_only Checked.Done (passes_verdict look m es p))),
+    λ p. ap number_of (sym (check_only (Ok tt) (passes_verdict look m es p))),
   )

@@ -1,15 +1,15 @@
-// How instructions, registers and conditions are spelt. The spellings stand in fixed tables, five bytes a row: four letters,
-// with blanks behind a shorter spelling, and the count of those that are its own.
+// How instructions, registers and conditions are spelt. The spellings stand in fixed tables, five bytes a row: four
+// letters, with blanks behind a shorter spelling, and the count of those that are its own.
 #![tactic(auto)]
 
 ghost use Rattle.wording.specs.Names.{name_of, reg8_text, reg16_text, condition_text};
-ghost use Rattle.writer.specs.Wrote.{Wrote};
+ghost use Rattle.writer.specs.Puts.{Puts};
 ghost use Rattle.names.specs.Table.{Row, spelling};
 
 use opcode::instruction::Instruction;
 use opcode::registers::{FlagCondition, Reg8, Reg16};
 use ordinals::{condition_number, instruction_number, reg8_number, reg16_number};
-use writer::put_bytes;
+use writer::Writer;
 
 // The 68 names, in the order of the enum.
 const NAMES: [u8; 340] = *b"\
@@ -27,35 +27,35 @@ const REG16: [u8; 40] = *b"AF  2BC  2DE  2HL  2SP  2AFp 3IX  2IY  2";
 const CONDITIONS: [u8; 40] = *b"NZ  2Z   1NC  2C   1PO  2PE  2P   1M   1";
 
 // What row k of a table spells.
-fn put_spelling(buf: &mut [u8], at: usize, table: &[u8], k: u8) -> usize
+fn put_spelling(out: &mut Writer, table: &[u8], k: u8)
     requires { Row table.now k }
-    ensures { Wrote buf.old at (spelling table.now k) buf.new result }
+    ensures { Puts out.old (spelling table.now k) out.new }
 {
     let from = (k as usize) * 5;
     let to = from + ((table[from + 4] - b'0') as usize);
-    put_bytes(buf, at, &table[from..to])
+    out.put_bytes(&table[from..to]);
 }
 
-pub fn put_name(buf: &mut [u8], at: usize, ins: Instruction) -> usize
-    ensures { Wrote buf.old at (name_of ins) buf.new result }
+pub fn put_name(out: &mut Writer, ins: Instruction)
+    ensures { Puts out.old (name_of ins) out.new }
 {
-    put_spelling(buf, at, &NAMES, instruction_number(ins))
+    put_spelling(out, &NAMES, instruction_number(ins));
 }
 
-pub fn put_reg8(buf: &mut [u8], at: usize, x: Reg8) -> usize
-    ensures { Wrote buf.old at (reg8_text x) buf.new result }
+pub fn put_reg8(out: &mut Writer, x: Reg8)
+    ensures { Puts out.old (reg8_text x) out.new }
 {
-    put_spelling(buf, at, &REG8, reg8_number(x))
+    put_spelling(out, &REG8, reg8_number(x));
 }
 
-pub fn put_reg16(buf: &mut [u8], at: usize, x: Reg16) -> usize
-    ensures { Wrote buf.old at (reg16_text x) buf.new result }
+pub fn put_reg16(out: &mut Writer, x: Reg16)
+    ensures { Puts out.old (reg16_text x) out.new }
 {
-    put_spelling(buf, at, &REG16, reg16_number(x))
+    put_spelling(out, &REG16, reg16_number(x));
 }
 
-pub fn put_condition(buf: &mut [u8], at: usize, x: FlagCondition) -> usize
-    ensures { Wrote buf.old at (condition_text x) buf.new result }
+pub fn put_condition(out: &mut Writer, x: FlagCondition)
+    ensures { Puts out.old (condition_text x) out.new }
 {
-    put_spelling(buf, at, &CONDITIONS, condition_number(x))
+    put_spelling(out, &CONDITIONS, condition_number(x));
 }

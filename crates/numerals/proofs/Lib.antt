@@ -1,2 +1,4 @@
+pub mod Each
 pub mod Sign
+pub mod Spelt
 pub mod Worked

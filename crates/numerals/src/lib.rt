@@ -1,79 +1,64 @@
-// Numbers as text, written to lent bytes.
+// Numbers as text, written to lent bytes. What is inlined always keeps the place of a text's writer in a register.
 #![tactic(auto)]
 
-ghost use Rattle.std.specs.Prelude.{◌≡◌, ◌<◌, nat_abs};
+ghost use Rattle.std.specs.Prelude.{◌≡◌, ◌<◌};
 ghost use Rattle.wording.specs.Digits.{digit as digit_of, hex8, hex16, digit_at, decimal, signed};
-ghost use Rattle.writer.specs.Wrote.{Wrote};
+ghost use Rattle.writer.specs.Puts.{Puts};
 
-use writer::put;
+use writer::Writer;
 
 // The digit of a hex or a decimal number, worked out from its value.
-fn digit(n: usize) -> u8
+fn digit(n: u8) -> u8
     requires { n < 16 }
     ensures { result ≡ digit_of n }
 {
-    if n < 10 {
-        return b'0' + n as u8;
-    }
-    b'A' + (n - 10) as u8
+    if n < 10 { b'0' + n } else { b'A' + (n - 10) }
 }
 
 // Two upper-case hex digits.
-pub fn put_hex8(buf: &mut [u8], at: usize, n: u8) -> usize
-    ensures { Wrote buf.old at (hex8 n) buf.new result }
+pub fn put_hex8(out: &mut Writer, n: u8)
+    ensures { Puts out.old (hex8 n) out.new }
 {
-    let low = put(buf, at, digit((n / 16) as usize));
-    put(buf, low, digit((n % 16) as usize))
+    out.put(digit(n / 16));
+    out.put(digit(n % 16));
 }
 
 // Four of them.
-pub fn put_hex16(buf: &mut [u8], at: usize, n: u16) -> usize
-    ensures { Wrote buf.old at (hex16 n) buf.new result }
+pub fn put_hex16(out: &mut Writer, n: u16)
+    ensures { Puts out.old (hex16 n) out.new }
 {
-    let low = put_hex8(buf, at, (n / 256) as u8);
-    put_hex8(buf, low, (n % 256) as u8)
+    let [high, low] = n.to_be_bytes();
+    put_hex8(out, high);
+    put_hex8(out, low);
 }
 
 // The digit of n at the power p of ten, where n reaches it.
-fn put_digit(buf: &mut [u8], at: usize, n: u16, p: u16) -> usize
+fn put_digit(out: &mut Writer, n: u16, p: u16)
     requires { 0 < p }
-    ensures { Wrote buf.old at (digit_at n p) buf.new result }
+    ensures { Puts out.old (digit_at n p) out.new }
 {
-    if n < p {
-        return at;
+    if p <= n {
+        out.put(digit((n / p % 10) as u8));
     }
-    put(buf, at, digit((n / p % 10) as usize))
 }
 
 // Decimal, with no zeros in front.
-pub fn put_decimal(buf: &mut [u8], at: usize, n: u16) -> usize
-    ensures { Wrote buf.old at (decimal n) buf.new result }
+#[inline(always)]
+pub fn put_decimal(out: &mut Writer, n: u16)
+    ensures { Puts out.old (decimal n) out.new }
 {
-    let thousands = put_digit(buf, at, n, 10000);
-    let hundreds = put_digit(buf, thousands, n, 1000);
-    let tens = put_digit(buf, hundreds, n, 100);
-    let ones = put_digit(buf, tens, n, 10);
-    put(buf, ones, digit((n % 10) as usize))
-}
-
-// How far a number is from zero: the bits of one below zero, turned over, are how far it is below -1.
-fn magnitude(n: i16) -> u16
-    ensures { result ≡ nat_abs n }
-{
-    if n < 0 {
-        return (!n) as u16 + 1;
+    for p in [10000, 1000, 100, 10] {
+        put_digit(out, n, p);
     }
-    n as u16
+    out.put(digit((n % 10) as u8));
 }
 
 // Decimal, with its sign.
-pub fn put_signed(buf: &mut [u8], at: usize, n: i16) -> usize
-    ensures { Wrote buf.old at (signed n) buf.new result }
+#[inline(always)]
+pub fn put_signed(out: &mut Writer, n: i16)
+    ensures { Puts out.old (signed n) out.new }
 {
-    if n < 0 {
-        let next = put(buf, at, b'-');
-        return put_decimal(buf, next, magnitude(n));
-    }
-    let next = put(buf, at, b'+');
-    put_decimal(buf, next, magnitude(n))
+    let sign = if n < 0 { b'-' } else { b'+' };
+    out.put(sign);
+    put_decimal(out, n.unsigned_abs());
 }

@@ -1,7 +1,7 @@
 -- The least and the most that a row takes, by its instruction, its first operand and the sum of its T-states. Definitions only.
 use Rattle.std.specs.Prelude.{ℕ, ◌+◌, Bool, true, false, cond}
 use Rattle.opcode.specs.declared.instruction.Instruction.{Instruction}
-use Rattle.opcode.specs.declared.instruction.Instruction.TheVariants.{ADC, ADD, AND, BIT, CALL, CCF, CP, CPD, CPDR, CPI, CPIR, CPL, DAA, DEC, DI, DJNZ, EI, EX, EXX, HALT, IM, IN, INC, IND, INDR, INI, INIR, JP, JR, LD, LDD, LDDR, LDI, LDIR, NEG, NOP, OR, OTDR, OTIR, OUT, OUTD, OUTI, POP, PUSH, RES, RET, RETI, RETN, RL, RLA, RLC, RLCA, RLD, RR, RRA, RRC, RRCA, RRD, RST, SBC, SCF, SET, SLA, SLL, SRA, SRL, SUB, XOR}
+use Rattle.opcode.specs.declared.instruction.Instruction.TheVariants.{JR, DJNZ, CALL, RET, LDIR, LDDR, CPIR, CPDR, INIR, INDR, OTIR, OTDR}
 use Rattle.opcode.specs.declared.operand.Operand.{Operand}
 use Rattle.opcode.specs.declared.operand.Place.{Place}
 use Rattle.opcode.specs.declared.counts.Pace.{Pace}
@@ -9,6 +9,18 @@ use Rattle.opcode.specs.declared.counts.RowTime.{RowTime}
 use Rattle.opcode.specs.declared.record.OpCode.{OpCode}
 use Rattle.opcode.specs.declared.times.Span.{Span}
 use Rattle.opcode.specs.Record.{sum}
+
+-- the eight that repeat themselves
+abbrev pub repeats : Instruction → Bool
+repeats LDIR = true
+repeats LDDR = true
+repeats CPIR = true
+repeats CPDR = true
+repeats INIR = true
+repeats INDR = true
+repeats OTIR = true
+repeats OTDR = true
+repeats _ = false
 
 -- JR cc, DJNZ, CALL cc and RET cc have a quick way through, the eight repeat themselves
 abbrev pub pace_of : Instruction → Pace
@@ -24,77 +36,11 @@ pace_of INIR = Pace.Repeats
 pace_of INDR = Pace.Repeats
 pace_of OTIR = Pace.Repeats
 pace_of OTDR = Pace.Repeats
--- and every other row
-pace_of ADC = Pace.Steady
-pace_of ADD = Pace.Steady
-pace_of AND = Pace.Steady
-pace_of BIT = Pace.Steady
-pace_of CCF = Pace.Steady
-pace_of CP = Pace.Steady
-pace_of CPD = Pace.Steady
-pace_of CPI = Pace.Steady
-pace_of CPL = Pace.Steady
-pace_of DAA = Pace.Steady
-pace_of DEC = Pace.Steady
-pace_of DI = Pace.Steady
-pace_of EI = Pace.Steady
-pace_of EX = Pace.Steady
-pace_of EXX = Pace.Steady
-pace_of HALT = Pace.Steady
-pace_of IM = Pace.Steady
-pace_of IN = Pace.Steady
-pace_of INC = Pace.Steady
-pace_of IND = Pace.Steady
-pace_of INI = Pace.Steady
-pace_of JP = Pace.Steady
-pace_of LD = Pace.Steady
-pace_of LDD = Pace.Steady
-pace_of LDI = Pace.Steady
-pace_of NEG = Pace.Steady
-pace_of NOP = Pace.Steady
-pace_of OR = Pace.Steady
-pace_of OUT = Pace.Steady
-pace_of OUTD = Pace.Steady
-pace_of OUTI = Pace.Steady
-pace_of POP = Pace.Steady
-pace_of PUSH = Pace.Steady
-pace_of RES = Pace.Steady
-pace_of RETI = Pace.Steady
-pace_of RETN = Pace.Steady
-pace_of RL = Pace.Steady
-pace_of RLA = Pace.Steady
-pace_of RLC = Pace.Steady
-pace_of RLCA = Pace.Steady
-pace_of RLD = Pace.Steady
-pace_of RR = Pace.Steady
-pace_of RRA = Pace.Steady
-pace_of RRC = Pace.Steady
-pace_of RRCA = Pace.Steady
-pace_of RRD = Pace.Steady
-pace_of RST = Pace.Steady
-pace_of SBC = Pace.Steady
-pace_of SCF = Pace.Steady
-pace_of SET = Pace.Steady
-pace_of SLA = Pace.Steady
-pace_of SLL = Pace.Steady
-pace_of SRA = Pace.Steady
-pace_of SRL = Pace.Steady
-pace_of SUB = Pace.Steady
-pace_of XOR = Pace.Steady
+pace_of _ = Pace.Steady
 
 abbrev pub is_condition : Operand → Bool
 is_condition (Operand.FlagCondition c) = true
-is_condition (Operand.Imm8 n) = false
-is_condition (Operand.Imm16 n) = false
-is_condition (Operand.RelAddr e) = false
-is_condition (Operand.Address n) = false
-is_condition (Operand.IOAddress n) = false
-is_condition (Operand.RegI i) = false
-is_condition (Operand.Reg8 r) = false
-is_condition (Operand.Reg16 q) = false
-is_condition (Operand.RegAddr q) = false
-is_condition (Operand.RegIOAddr r) = false
-is_condition Operand.IgnoreIO = false
+is_condition _ = false
 
 -- the first operand is a condition
 abbrev pub has_condition : Place → Bool
@@ -110,10 +56,8 @@ least_by Pace.Repeats conditional n = 16
 
 -- most: the sum n, and of the repeating eight five more
 abbrev pub most_by : Pace → ℕ → ℕ
-most_by Pace.Steady n = n
-most_by (Pace.Shorter k) n = n
-most_by (Pace.ShorterIf k) n = n
 most_by Pace.Repeats n = n + 5
+most_by _ n = n
 
 abbrev pub span_by : Instruction → Bool → ℕ → Span
 span_by i conditional n = record { least = record { 0 = least_by (pace_of i) conditional n }; most = record { 0 = most_by (pace_of i) n } }

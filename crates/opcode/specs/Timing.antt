@@ -1,11 +1,10 @@
 -- The four edits of a record's T-state list, on all six places, of which the first m are filled. Definitions only.
 -- An edit that is done leaves what the original leaves, also where something stands behind the filled places of a record made by hand; one that is refused leaves the record as it came.
-use Rattle.std.specs.Prelude.{ℕ, ◌+◌, ◌-◌, ◌≤◌, ◌≡◌, Bool, true, false, cond, ◌&&◌, List, [], ◌∷◌, ◌++◌, ltb, leb, length, take, drop}
+use Rattle.std.specs.Prelude.{ℕ, ◌+◌, ◌-◌, ◌≤◌, ◌≡◌, Bool, cond, ◌&&◌, Result, Ok, Err, List, [], ◌∷◌, ◌++◌, ltb, leb, length, take, drop}
 use Rattle.opcode.specs.Record.{unfilled, six}
 use Rattle.opcode.specs.declared.counts.TStates.{TStates}
 use Rattle.opcode.specs.declared.record.OpCode.{OpCode}
 use Rattle.opcode.specs.declared.timing.Timing.{Timing}
-use Rattle.opcode.specs.declared.timing.Edited.{Edited}
 
 -- the filled places of a record, and of what is put in
 abbrev pub filled : OpCode → List TStates
@@ -31,8 +30,13 @@ unfoldable pub removed : List TStates → ℕ → List TStates
 removed l pos = written l pos (drop (pos + 1) l)
 
 -- no: the record as it came
-abbrev pub no : OpCode → Edited
-no r = record { ok = false; rec = r }
+abbrev pub no : OpCode → Result OpCode OpCode
+no r = Err r
+
+-- the record of an edit's answer, whatever it is
+abbrev pub rec_of : Result OpCode OpCode → OpCode
+rec_of (Ok r) = r
+rec_of (Err r) = r
 
 -- the record with the first six of l, n of them filled; its row times are figures of the row, not of the list, and stay
 abbrev pub timed : OpCode → List TStates → ℕ → OpCode
@@ -50,15 +54,16 @@ timed r l n =
       most = r.most;
     }
 
-abbrev pub yes : OpCode → List TStates → ℕ → Edited
-yes r l n = record { ok = true; rec = timed r l n }
+-- yes: the record with these places
+abbrev pub yes : OpCode → List TStates → ℕ → Result OpCode OpCode
+yes r l n = Ok (timed r l n)
 
 -- at most six places are filled, pos is at most their count m, and there is room for n more
 unfoldable pub may_insert : ℕ → ℕ → ℕ → Bool
 may_insert m pos n = leb m 6 && (leb pos m && leb n (6 - m))
 
 -- what passes the sixth place is lost
-unfoldable pub insert_of : OpCode → ℕ → Timing → Edited
+unfoldable pub insert_of : OpCode → ℕ → Timing → Result OpCode OpCode
 insert_of r pos x =
     cond (may_insert r.mcycles.0 pos x.mcycles.0)
     (yes r (inserted r.tstates pos (listed x)) (r.mcycles.0 + x.mcycles.0))
@@ -69,13 +74,13 @@ unfoldable pub may_extend : ℕ → ℕ → Bool
 may_extend m n = leb m 6 && leb n (6 - m)
 
 -- behind the filled places, over what stands there; no other place alters
-unfoldable pub extend_of : OpCode → Timing → Edited
+unfoldable pub extend_of : OpCode → Timing → Result OpCode OpCode
 extend_of r x =
     cond (may_extend r.mcycles.0 x.mcycles.0)
     (yes r (written r.tstates r.mcycles.0 (listed x)) (r.mcycles.0 + x.mcycles.0))
     (no r)
 
-unfoldable pub push_of : OpCode → TStates → Edited
+unfoldable pub push_of : OpCode → TStates → Result OpCode OpCode
 push_of r t = cond (may_extend r.mcycles.0 1) (yes r (written r.tstates r.mcycles.0 (t ∷ [])) (r.mcycles.0 + 1)) (no r)
 
 -- at most six places are filled, and pos is one of them
@@ -83,7 +88,7 @@ unfoldable pub may_remove : ℕ → ℕ → Bool
 may_remove m pos = leb m 6 && ltb pos m
 
 -- the place that is filled no more is zero
-unfoldable pub remove_of : OpCode → ℕ → Edited
+unfoldable pub remove_of : OpCode → ℕ → Result OpCode OpCode
 remove_of r pos =
     cond (may_remove r.mcycles.0 pos)
     (yes r (written (removed r.tstates pos) (r.mcycles.0 - 1) (unfilled ∷ [])) (r.mcycles.0 - 1))

@@ -6,10 +6,10 @@ ghost use Rattle.opcode.specs.Times.{time_of, retimed};
 use super::counts::{Bytes, MCycles, RowTime, TStates};
 use super::instruction::Instruction;
 use super::operand::Place;
-use super::times::row_times;
+use super::times::{Span, row_times};
 
-// The first `mcycles` of the six T-state places are filled and the rest are zero; `data` is the input, padded with zeros;
-// `least` and `most` are the quick and the slow way through the row.
+// The first `mcycles` of the six T-state places are filled and the rest are zero; `data` is the input, padded with
+// zeros; `least` and `most` are the quick and the slow way through the row.
 #[derive(Clone, Copy)]
 pub struct OpCode {
     pub length: Bytes,
@@ -56,38 +56,18 @@ impl OpCode {
     pub fn row_time(self) -> RowTime
         ensures { result ≡ time_of self }
     {
-        let ins = self.ins;
-        let op1 = self.op1;
-        let t = self.tstates;
-        row_times(ins, op1, t).most
+        row_times(self.ins, self.op1, self.tstates).most
     }
 
     // The record with the row times that its instruction, its first operand and its six places give.
     pub fn with_row_times(self) -> OpCode
         ensures { result ≡ retimed self }
     {
-        let length = self.length;
-        let ins = self.ins;
-        let op1 = self.op1;
-        let op2 = self.op2;
-        let op3 = self.op3;
-        let data = self.data;
-        let tstates = self.tstates;
-        let mcycles = self.mcycles;
-        let span = row_times(ins, op1, tstates);
-        let least = span.least;
-        let most = span.most;
+        let Span { least, most } = row_times(self.ins, self.op1, self.tstates);
         OpCode {
-            length,
-            ins,
-            op1,
-            op2,
-            op3,
-            data,
-            tstates,
-            mcycles,
             least,
             most,
+            ..self
         }
     }
 }

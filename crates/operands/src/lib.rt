@@ -1,107 +1,67 @@
-// The forms of operands.
+// The forms of operands. They are inlined always, which keeps the place of a text's writer in a register.
 #![tactic(auto)]
 
 ghost use Rattle.std.specs.Prelude.{◌++◌};
 ghost use Rattle.wording.specs.Ascii.{ascii};
-ghost use Rattle.wording.specs.Digits.{hex8, hex16, signed};
-ghost use Rattle.wording.specs.Names.{reg8_text, reg16_text};
-ghost use Rattle.wording.specs.Text.{index_text, operand_text, place_text};
-ghost use Rattle.writer.specs.Wrote.{Wrote};
+ghost use Rattle.wording.specs.Digits.{signed};
+ghost use Rattle.wording.specs.Text.{operand_text, place_text};
+ghost use Rattle.writer.specs.Puts.{Puts, Writes};
 
 use names::{put_condition, put_reg8, put_reg16};
 use numerals::{put_hex8, put_hex16, put_signed};
 use opcode::operand::{Operand, Place};
-use opcode::registers::{Reg8, Reg16, RegI};
-use writer::{put, put_bytes};
+use opcode::registers::RegI;
+use writer::Writer;
 
-// +5) and -128): what stands behind the index register.
-fn put_displacement(buf: &mut [u8], at: usize, d: i8) -> usize
-    ensures { Wrote buf.old at (signed d ++ ascii ")") buf.new result }
+// (IX+5), (IY-128): the register's part, and what stands behind it.
+#[inline(always)]
+fn put_index(out: &mut Writer, register: &[u8], d: i8)
+    ensures { Puts out.old (register.now ++ signed d ++ ascii ")") out.new }
 {
-    let end = put_signed(buf, at, d as i16);
-    put(buf, end, b')')
+    out.put_bytes(register);
+    put_signed(out, i16::from(d));
+    out.put(b')');
 }
 
-// (IX+5), (IY-128)
-fn put_index(buf: &mut [u8], at: usize, x: RegI) -> usize
-    ensures { Wrote buf.old at (index_text x) buf.new result }
+// What `inside` writes, in parentheses.
+#[inline(always)]
+fn put_parenthesized<F: FnOnce(&mut Writer)>(out: &mut Writer, inside: F)
+    requires { F.IsAlwaysCallable inside }
+    ensures { (t : _) → Writes F.FnOnce inside t → Puts out.old (ascii "(" ++ t ++ ascii ")") out.new }
 {
-    match x {
-        RegI::IX(d) => {
-            let sign = put_bytes(buf, at, b"(IX");
-            put_displacement(buf, sign, d)
-        }
-        RegI::IY(d) => {
-            let sign = put_bytes(buf, at, b"(IY");
-            put_displacement(buf, sign, d)
-        }
-    }
+    out.put(b'(');
+    inside(out);
+    out.put(b')');
 }
 
-// (1234)
-fn put_address(buf: &mut [u8], at: usize, n: u16) -> usize
-    ensures { Wrote buf.old at (ascii "(" ++ hex16 n ++ ascii ")") buf.new result }
-{
-    let inside = put(buf, at, b'(');
-    let end = put_hex16(buf, inside, n);
-    put(buf, end, b')')
-}
-
-// (05)
-fn put_port(buf: &mut [u8], at: usize, n: u8) -> usize
-    ensures { Wrote buf.old at (ascii "(" ++ hex8 n ++ ascii ")") buf.new result }
-{
-    let inside = put(buf, at, b'(');
-    let end = put_hex8(buf, inside, n);
-    put(buf, end, b')')
-}
-
-// (HL)
-fn put_reg_address(buf: &mut [u8], at: usize, x: Reg16) -> usize
-    ensures { Wrote buf.old at (ascii "(" ++ reg16_text x ++ ascii ")") buf.new result }
-{
-    let inside = put(buf, at, b'(');
-    let end = put_reg16(buf, inside, x);
-    put(buf, end, b')')
-}
-
-// (C)
-fn put_reg_port(buf: &mut [u8], at: usize, x: Reg8) -> usize
-    ensures { Wrote buf.old at (ascii "(" ++ reg8_text x ++ ascii ")") buf.new result }
-{
-    let inside = put(buf, at, b'(');
-    let end = put_reg8(buf, inside, x);
-    put(buf, end, b')')
-}
-
-fn put_operand(buf: &mut [u8], at: usize, o: Operand) -> usize
-    ensures { Wrote buf.old at (operand_text o) buf.new result }
+#[inline(always)]
+fn put_operand(out: &mut Writer, o: Operand)
+    ensures { Puts out.old (operand_text o) out.new }
 {
     match o {
-        Operand::Imm8(n) => put_hex8(buf, at, n),
-        Operand::Imm16(n) => put_hex16(buf, at, n),
-        Operand::RelAddr(e) => put_signed(buf, at, e),
-        Operand::Address(n) => put_address(buf, at, n),
-        Operand::IOAddress(n) => put_port(buf, at, n),
-        Operand::RegI(x) => put_index(buf, at, x),
-        Operand::Reg8(x) => put_reg8(buf, at, x),
-        Operand::Reg16(x) => put_reg16(buf, at, x),
-        Operand::RegAddr(x) => put_reg_address(buf, at, x),
-        Operand::RegIOAddr(x) => put_reg_port(buf, at, x),
-        Operand::FlagCondition(x) => put_condition(buf, at, x),
-        Operand::IgnoreIO => put_bytes(buf, at, b"ignored"),
+        Operand::Imm8(n) => put_hex8(out, n),
+        Operand::Imm16(n) => put_hex16(out, n),
+        Operand::RelAddr(e) => put_signed(out, e),
+        Operand::Address(n) => put_parenthesized(out, |out| put_hex16(out, n)),
+        Operand::IOAddress(n) => put_parenthesized(out, |out| put_hex8(out, n)),
+        Operand::RegI(RegI::IX(d)) => put_index(out, b"(IX", d),
+        Operand::RegI(RegI::IY(d)) => put_index(out, b"(IY", d),
+        Operand::Reg8(x) => put_reg8(out, x),
+        Operand::Reg16(x) => put_reg16(out, x),
+        Operand::RegAddr(x) => put_parenthesized(out, |out| put_reg16(out, x)),
+        Operand::RegIOAddr(x) => put_parenthesized(out, |out| put_reg8(out, x)),
+        Operand::FlagCondition(x) => put_condition(out, x),
+        Operand::IgnoreIO => out.put_bytes(b"ignored"),
     }
 }
 
 // A filled place, behind what stands before it.
-pub fn put_place(buf: &mut [u8], at: usize, before: &[u8], p: Place) -> usize
-    ensures { Wrote buf.old at (place_text before.now p) buf.new result }
+#[inline(always)]
+pub fn put_place(out: &mut Writer, before: &[u8], p: Place)
+    ensures { Puts out.old (place_text before.now p) out.new }
 {
-    match p {
-        Place::Empty => at,
-        Place::Of(o) => {
-            let next = put_bytes(buf, at, before);
-            put_operand(buf, next, o)
-        }
+    if let Place::Of(o) = p {
+        out.put_bytes(before);
+        put_operand(out, o);
     }
 }

@@ -4,12 +4,13 @@ ghost use Rattle.opcode.specs.Record.{sum};
 ghost use Rattle.packed.specs.Packed.{states_from, span_from};
 ghost use Rattle.packed.specs.Paces.{paces_of, pace_digit, quick_of, least_for, most_for};
 
-use super::digits::{digit, lesser};
+use super::digits::{digit, instruction, kinds, states};
+use super::named::instruction_or_last;
 use opcode::counts::RowTime;
 use opcode::times::Span;
 
-// By the instruction's number, a digit each: 1 JR, 2 CALL, 3 RET, 4 DJNZ, 5 one that repeats itself, 0 any other. Digits and
-// no `match` of them: which one it is cannot be guessed.
+// By the instruction's number, a digit each: 1 JR, 2 CALL, 3 RET, 4 DJNZ, 5 one that repeats itself, 0 any other.
+// Digits and no `match` of them: which one it is cannot be guessed.
 #[tactic(auto, unfolding(crate::specs::Paces::paces_of))]
 fn paces(part: u8) -> u64
     ensures { result ≡ paces_of part }
@@ -26,7 +27,7 @@ fn paces(part: u8) -> u64
 fn pace(n: u8) -> u8
     ensures { result ≡ pace_digit n }
 {
-    let ins = lesser(n, 67);
+    let ins = instruction_or_last(n);
     digit(paces(ins / 16 % 4), ins % 16)
 }
 
@@ -44,13 +45,12 @@ fn quick(pace: u8) -> u16
 fn total(row: u64) -> u16
     ensures { (result ≡ sum (states_from row)) × (result ≤ 90) }
 {
-    let first = row / 0x100000_00_00_00_00_00 % 16 + row / 0x010000_00_00_00_00_00 % 16;
-    let second = row / 0x001000_00_00_00_00_00 % 16 + row / 0x000100_00_00_00_00_00 % 16;
-    let third = row / 0x000010_00_00_00_00_00 % 16 + row / 0x000001_00_00_00_00_00 % 16;
-    (first + second + third) as u16
+    let [first, second, third, fourth, fifth, sixth] = states(row);
+    u16::from(first + second + third + fourth + fifth + sixth)
 }
 
-// From which pace on a row has a quick way: with a condition all but 0, without one DJNZ and the rows that repeat themselves.
+// From which pace on a row has a quick way: with a condition all but 0, without one DJNZ and the rows that repeat
+// themselves.
 fn steady(conditional: bool) -> u8
     ensures { result ≡ cond conditional 0 3 }
 {
@@ -81,9 +81,11 @@ fn most(pace: u8, sum: u16) -> u16
 pub fn row_span(row: u64) -> Span
     ensures { result ≡ span_from row }
 {
-    let pace = pace((row % 256) as u8) % 8;
+    let pace = pace(instruction(row)) % 8;
+    let [kind1, _, _] = kinds(row);
     let sum = total(row);
-    let least = RowTime(least(pace, row / 0x10_00 % 16 == 4, sum));
-    let most = RowTime(most(pace, sum));
-    Span { least, most }
+    Span {
+        least: RowTime(least(pace, kind1 / 16 == 4, sum)),
+        most: RowTime(most(pace, sum)),
+    }
 }

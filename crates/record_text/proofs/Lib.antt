@@ -1,2 +1,2 @@
-pub mod Each
+pub mod Bits
 pub mod Times

@@ -1,118 +1,100 @@
 // The text of a record: its bytes, mnemonic and operands, T-states, each where it is chosen.
 #![tactic(auto)]
 
-ghost use Rattle.std.specs.Prelude.{take, drop};
-ghost use Rattle.wording.specs.Text.{each, byte_text, next_time, times_text, operands_text, bytes_part, instruction_part, times_part, part, text_of};
-ghost use Rattle.writer.specs.Wrote.{Wrote};
+ghost use Rattle.wording.specs.Text.{times_text, operands_text, bytes_part, instruction_part, times_part, part, text_of};
+ghost use Rattle.writer.specs.Puts.{Puts, Writes};
 
 use names::put_name;
 use numerals::{put_decimal, put_hex8};
 use opcode::counts::TStates;
 use opcode::record::OpCode;
 use operands::put_place;
-use writer::{put, put_bytes};
-
-// A T-state behind another.
-fn put_next_time(buf: &mut [u8], at: usize, t: TStates) -> usize
-    ensures { Wrote buf.old at (next_time t) buf.new result }
-{
-    let next = put_bytes(buf, at, b", ");
-    put_decimal(buf, next, t.0 as u16)
-}
-
-// The T-states behind the first.
-fn put_next_times(buf: &mut [u8], at: usize, t: [TStates; 6]) -> usize
-    ensures { Wrote buf.old at (each next_time (drop 1 t)) buf.new result }
-{
-    let mut next = at;
-    let mut i = 1;
-    while i < OpCode::PLACES {
-        next = put_next_time(buf, next, t[i]);
-        i += 1;
-    }
-    next
-}
+use writer::Writer;
 
 // All six T-states.
-fn put_times(buf: &mut [u8], at: usize, t: [TStates; 6]) -> usize
-    ensures { Wrote buf.old at (times_text t) buf.new result }
+fn put_times(out: &mut Writer, t: [TStates; 6])
+    ensures { Puts out.old (times_text t) out.new }
 {
-    let first = t[0];
-    let inside = put(buf, at, b'[');
-    let others = put_decimal(buf, inside, first.0 as u16);
-    let end = put_next_times(buf, others, t);
-    put(buf, end, b']')
+    out.put(b'[');
+    put_decimal(out, u16::from(t[0].0));
+    for next in &t[1..] {
+        out.put_bytes(b", ");
+        put_decimal(out, u16::from(next.0));
+    }
+    out.put(b']');
 }
 
 // The operands, joined.
-fn put_operands(buf: &mut [u8], at: usize, rec: OpCode) -> usize
-    ensures { Wrote buf.old at (operands_text rec) buf.new result }
+fn put_operands(out: &mut Writer, rec: OpCode)
+    ensures { Puts out.old (operands_text rec) out.new }
 {
-    let op1 = rec.op1;
-    let op2 = rec.op2;
-    let op3 = rec.op3;
-    let second = put_place(buf, at, b"", op1);
-    let third = put_place(buf, second, b", ", op2);
-    put_place(buf, third, b", ", op3)
+    put_place(out, b"", rec.op1);
+    put_place(out, b", ", rec.op2);
+    put_place(out, b", ", rec.op3);
 }
 
-// The first n of the data bytes.
-fn put_data(buf: &mut [u8], at: usize, d: [u8; 4], n: u8) -> usize
-    ensures { Wrote buf.old at (each byte_text (take n d)) buf.new result }
+// The row's bytes and two tabs.
+fn put_bytes_part(out: &mut Writer, rec: OpCode)
+    ensures { Puts out.old (bytes_part rec) out.new }
 {
-    let mut next = at;
-    let mut i = 0;
-    while i < OpCode::LENGTH_MAX && i < n as usize {
-        let digits = put_hex8(buf, next, d[i]);
-        next = put(buf, digits, b' ');
-        i += 1;
+    for b in rec.data.iter().take(rec.length.0 as usize) {
+        put_hex8(out, *b);
+        out.put(b' ');
     }
-    next
+    out.put_bytes(b"\t\t");
 }
 
-// The row's bytes and two tabs, if they are shown.
-fn put_bytes_part(buf: &mut [u8], at: usize, rec: OpCode, shown: bool) -> usize
-    ensures { Wrote buf.old at (part shown (bytes_part rec)) buf.new result }
+// Mnemonic, tab and operands.
+fn put_instruction_part(out: &mut Writer, rec: OpCode)
+    ensures { Puts out.old (instruction_part rec) out.new }
 {
-    if shown {
-        let length = rec.length;
-        let d = rec.data;
-        let tabs = put_data(buf, at, d, length.0);
-        return put_bytes(buf, tabs, b"\t\t");
-    }
-    at
+    put_name(out, rec.ins);
+    out.put(b'\t');
+    put_operands(out, rec);
 }
 
-// Mnemonic, tab and operands, if they are shown.
-fn put_instruction_part(buf: &mut [u8], at: usize, rec: OpCode, shown: bool) -> usize
-    ensures { Wrote buf.old at (part shown (instruction_part rec)) buf.new result }
+// A space and the T-states.
+fn put_times_part(out: &mut Writer, rec: OpCode)
+    ensures { Puts out.old (times_part rec) out.new }
 {
-    if shown {
-        let ins = rec.ins;
-        let name = put_name(buf, at, ins);
-        let operands = put(buf, name, b'\t');
-        return put_operands(buf, operands, rec);
-    }
-    at
+    out.put(b' ');
+    put_times(out, rec.tstates);
 }
 
-// A space and the T-states, if they are shown.
-fn put_times_part(buf: &mut [u8], at: usize, rec: OpCode, shown: bool) -> usize
-    ensures { Wrote buf.old at (part shown (times_part rec)) buf.new result }
+// A part where it is present.
+fn put_part<F: FnOnce(&mut Writer)>(out: &mut Writer, present: bool, write: F)
+    requires { F.IsAlwaysCallable write }
+    ensures { (t : _) → Writes F.FnOnce write t → Puts out.old (part present t) out.new }
 {
-    if shown {
-        let t = rec.tstates;
-        let times = put(buf, at, b' ');
-        return put_times(buf, times, t);
+    if present {
+        write(out);
     }
-    at
 }
+
+// The choice of all three parts, the largest.
+pub const CHOICE_MAX: u8 = 7;
 
 // The parts of a choice: bytes 1, instruction 2, T-states 4, added up.
-pub fn put_text(buf: &mut [u8], at: usize, rec: OpCode, choice: u8) -> usize
-    ensures { Wrote buf.old at (text_of choice rec) buf.new result }
+#[inline(always)]
+fn put_parts(out: &mut Writer, rec: OpCode, choice: u8)
+    ensures { Puts out.old (text_of choice rec) out.new }
 {
-    let name = put_bytes_part(buf, at, rec, choice % 2 == 1);
-    let space = put_instruction_part(buf, name, rec, choice / 2 % 2 == 1);
-    put_times_part(buf, space, rec, choice / 4 % 2 == 1)
+    put_part(out, choice & 1 != 0, |out| put_bytes_part(out, rec));
+    put_part(out, choice & 2 != 0, |out| {
+        put_instruction_part(out, rec)
+    });
+    put_part(out, choice & 4 != 0, |out| put_times_part(out, rec));
+}
+
+// They are put through a writer of its own: all that it is lent to is inlined, so that its place stays in a register.
+pub fn put_text(out: &mut Writer, rec: OpCode, choice: u8)
+    ensures { Puts out.old (text_of choice rec) out.new }
+{
+    let mut own = Writer {
+        buf: &mut *out.buf,
+        at: out.at,
+    };
+    put_parts(&mut own, rec, choice);
+    let at = own.at;
+    out.at = at;
 }

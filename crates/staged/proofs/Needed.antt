@@ -9,6 +9,8 @@ use native.Mathlib.Omega.{arith}
 use lib.Dec.{T, eqb}
 use lib.ListN.{length, get_or}
 use borrow.Author.Tests.{eqb-true, eq-eqb, ne_eqb}
+use Rattle.std.specs.Prelude.{is_some}
+use Rattle.std.specs.ControlFlow.{break_value}
 use Rattle.opcode.specs.declared.record.OpCode.{OpCode}
 use Rattle.table.specs.Row.{Row, row, gap}
 use Rattle.table.specs.Departures.{needed}
@@ -23,17 +25,17 @@ use Rattle.table.proofs.Missing.{plain_needs}
 use Rattle.stage.specs.Stage.{answer, of_length}
 
 -- a stage takes the rows of its length, and no gap
-taken_length : (k : ℕ) (x : Row) (s : List ℕ) (o : OpCode) → (answer (of_length k x) s o).ok ≡ true → needed x ≡ k
+taken_length : (k : ℕ) (x : Row) (s : List ℕ) (o : OpCode) → is_some (break_value (answer (of_length k x) s o)) ≡ true → needed x ≡ k
 taken_length k gap s o t = absurd (true≢false (sym t))
 taken_length k (row i x y z n u) s o t = by_test (eqb n k) refl t
   where
-    by_test : (b : Bool) → eqb n k ≡ b → (answer (cond b (row i x y z n u) gap) s o).ok ≡ true → n ≡ k
+    by_test : (b : Bool) → eqb n k ≡ b → is_some (break_value (answer (cond b (row i x y z n u) gap) s o)) ≡ true → n ≡ k
     by_test true e t = eqb-true n k e
     by_test false e t = absurd (true≢false (sym t))
 
-left_length : (k : ℕ) (x : Row) (s : List ℕ) (o : OpCode) → k ≤ 3 → (answer (of_length k x) s o).ok ≡ false → needed x ≡ k → ⊥
+left_length : (k : ℕ) (x : Row) (s : List ℕ) (o : OpCode) → k ≤ 3 → is_some (break_value (answer (of_length k x) s o)) ≡ false → needed x ≡ k → ⊥
 left_length k gap s o most f e = omega arith
-left_length k (row i x y z n u) s o most f e = true≢false (sym (ap (λ (b : Bool). (answer (cond b (row i x y z n u) gap) s o).ok) (eq-eqb n k e)) ∙ f)
+left_length k (row i x y z n u) s o most f e = true≢false (sym (ap (λ (b : Bool). is_some (break_value (answer (cond b (row i x y z n u) gap) s o))) (eq-eqb n k e)) ∙ f)
 
 -- no row of the CB and the ED page is three bytes long
 abbrev not_three : Row → Bool
@@ -114,14 +116,14 @@ module _ (s l : List ℕ) (o : OpCode) (some : 0 < length s) where
       by_bytes [] h = absurd (omega arith)
       by_bytes (b0 ∷ u) h = three_needs u b0
 
-  pub two_told : (answer (of_length 2 two) l o).ok ≡ true → needed_of s ≡ 2
+  pub two_told : is_some (break_value (answer (of_length 2 two) l o)) ≡ true → needed_of s ≡ 2
   two_told t = two_needs s some ∙ taken_length 2 two l o t
 
-  pub two_left : (answer (of_length 2 two) l o).ok ≡ false → needed_of s ≡ 2 → ⊥
+  pub two_left : is_some (break_value (answer (of_length 2 two) l o)) ≡ false → needed_of s ≡ 2 → ⊥
   two_left f h = left_length 2 two l o (omega arith) f (sym (two_needs s some) ∙ h)
 
-  pub three_told : (answer (of_length 3 three) l o).ok ≡ true → needed_of s ≡ 3
+  pub three_told : is_some (break_value (answer (of_length 3 three) l o)) ≡ true → needed_of s ≡ 3
   three_told t = three_is.1 (taken_length 3 three l o t)
 
-  pub three_left : (answer (of_length 3 three) l o).ok ≡ false → needed_of s ≡ 3 → ⊥
+  pub three_left : is_some (break_value (answer (of_length 3 three) l o)) ≡ false → needed_of s ≡ 3 → ⊥
   three_left f h = left_length 3 three l o (omega arith) f (three_is.0 h)

@@ -1,5 +1,5 @@
 -- Document 01's starred rows, document 02's single rows and the chip's own, a list each. Definitions only.
-use Rattle.std.specs.Prelude.{ℕ, ◌≡◌, List, [], ◌∷◌, ◌++◌, pos, negsuc, length, take}
+use Rattle.std.specs.Prelude.{ℕ, ◌≡◌, List, [], ◌∷◌, ◌++◌, pos, negsuc, Ok, length, take}
 use Rattle.opcode.specs.declared.counts.TStates.{TStates}
 use Rattle.opcode.specs.declared.registers.Reg8.{Reg8}
 use Rattle.opcode.specs.declared.registers.Reg16.{Reg16}
@@ -15,9 +15,8 @@ use Rattle.table.specs.declared.Answer.{Answer}
 use Rattle.table.specs.declared.Answer.TheVariants.{Long}
 use Rattle.table.specs.declared.Mode.{Mode}
 use Rattle.table.specs.Chip.{decode_in}
-use Rattle.marking.specs.declared.Checked.{Checked}
 use Rattle.marking.specs.Rules.{chart}
-use Rattle.marking.specs.Verdict.{number_of, address_of, Verdict}
+use Rattle.marking.specs.Verdict.{Checked, number_of, address_of, Verdict}
 use Rattle.flow.specs.Flow.{look_of}
 
 pub data Starred : Type 0 where
@@ -48,7 +47,7 @@ starred =
     ∷ reads (0xFD ∷ 0xCB ∷ 0x7F ∷ 0xC6 ∷ []) 4 SET (Imm8 0x00 ∷ Operand.RegI (RegI.IY (pos 127)) ∷ []) (4 ∷ 4 ∷ 3 ∷ 5 ∷ 4 ∷ 3 ∷ []) 23 23
     ∷ reads (0xDD ∷ 0xED ∷ 0x62 ∷ 0x00 ∷ []) 3 SBC (Operand.Reg16 Reg16.IX ∷ Operand.Reg16 Reg16.IX ∷ []) (4 ∷ 4 ∷ 4 ∷ 4 ∷ 3 ∷ []) 19 19
     ∷ five Long
-    ∷ checks (0x18 ∷ 0xFE ∷ []) (1 ∷ 2 ∷ []) (0 ∷ 0 ∷ []) Checked.Done
+    ∷ checks (0x18 ∷ 0xFE ∷ []) (1 ∷ 2 ∷ []) (0 ∷ 0 ∷ []) (Ok tt)
     ∷ []
 
 -- what document 02 says of single rows: how many bytes are missing; their row times, those of a NOP with leftovers among them
@@ -85,7 +84,7 @@ chip_rows =
     ∷ reads (0xFD ∷ 0xCB ∷ 0x7F ∷ 0xC6 ∷ []) 4 SET (Imm8 0x00 ∷ Operand.RegI (RegI.IY (pos 127)) ∷ []) (4 ∷ 4 ∷ 3 ∷ 5 ∷ 4 ∷ 3 ∷ []) 23 23
     ∷ reads (0xDD ∷ 0x76 ∷ []) 1 NOP [] (4 ∷ []) 4 4
     ∷ reads (0x00 ∷ []) 1 NOP [] (4 ∷ []) 4 4
-    ∷ checks (0xDD ∷ 0x23 ∷ 0xC9 ∷ []) (1 ∷ 2 ∷ 1 ∷ []) (0 ∷ 0 ∷ []) Checked.Done
+    ∷ checks (0xDD ∷ 0x23 ∷ 0xC9 ∷ []) (1 ∷ 2 ∷ 1 ∷ []) (0 ∷ 0 ∷ []) (Ok tt)
     ∷ []
 
 -- the operand places, those behind the last operand being empty

@@ -1,3 +1,4 @@
+pub mod Mode
 pub mod Signed
 pub mod Row
 pub mod Families

@@ -10,7 +10,7 @@ use Rattle.opcode.specs.declared.record.OpCode.{OpCode}
 use Rattle.opcode.specs.declared.timing.Timing.{Timing}
 use Rattle.opcode.specs.Record.{six, empty_of}
 use Rattle.opcode.specs.Times.{retimed}
-use Rattle.opcode.specs.Timing.{insert_of, push_of, remove_of}
+use Rattle.opcode.specs.Timing.{insert_of, push_of, remove_of, rec_of}
 use Rattle.table.specs.declared.Answer.{Answer}
 use Rattle.table.specs.declared.Decoded.{Decoded}
 use Rattle.table.specs.Row.{Index, ix, iy, gap, index_of, states}
@@ -165,15 +165,15 @@ changed o n i x y =
 abbrev pub with_addr : Index → ℕ → ℕ → OpCode → OpCode
 with_addr i d n o =
     cond (is_imm8 o.op2)
-    (remove_of (insert_of (changed o (o.length.0 + 2) o.ins (replace_addr i d o.op1) (Place.Of (Operand.Imm8 n))) 1 (timing (4 ∷ 3 ∷ 5 ∷ []))).rec 5).rec
-    (insert_of (changed o (o.length.0 + 2) o.ins (replace_addr i d o.op1) (replace_addr i d o.op2)) 1 (timing (4 ∷ 3 ∷ 5 ∷ []))).rec
+    (rec_of (remove_of (rec_of (insert_of (changed o (o.length.0 + 2) o.ins (replace_addr i d o.op1) (Place.Of (Operand.Imm8 n))) 1 (timing (4 ∷ 3 ∷ 5 ∷ [])))) 5))
+    (rec_of (insert_of (changed o (o.length.0 + 2) o.ins (replace_addr i d o.op1) (replace_addr i d o.op2)) 1 (timing (4 ∷ 3 ∷ 5 ∷ []))))
 
 abbrev pub with_hl : Index → OpCode → OpCode
-with_hl i o = (insert_of (changed o (o.length.0 + 1) o.ins (replace_hl i o.op1) (replace_hl i o.op2)) 1 (timing (4 ∷ []))).rec
+with_hl i o = rec_of (insert_of (changed o (o.length.0 + 1) o.ins (replace_hl i o.op1) (replace_hl i o.op2)) 1 (timing (4 ∷ [])))
 
 -- length 1, NOP; T-states [4] if none are set
 abbrev pub as_nop : OpCode → OpCode
-as_nop o = cond (eqb o.mcycles.0 0) (push_of (changed o 1 Instruction.NOP o.op1 o.op2) (record { 0 = 4 })).rec (changed o 1 Instruction.NOP o.op1 o.op2)
+as_nop o = cond (eqb o.mcycles.0 0) (rec_of (push_of (changed o 1 Instruction.NOP o.op1 o.op2) (record { 0 = 4 }))) (changed o 1 Instruction.NOP o.op1 o.op2)
 
 -- the record of the bytes behind the prefix, changed: d and n are the third and the fourth byte
 abbrev pub prefixed : Index → ℕ → ℕ → OpCode → OpCode

@@ -7,36 +7,29 @@ ghost use Rattle.wording.specs.Answers.{told_by, text_outcome};
 
 use disas::disas;
 use opcode::record::OpCode;
-use record_text::put_text;
-use table::{Answer, Mode};
-use wording::Written;
-use writer::give;
+use record_text::{CHOICE_MAX, put_text};
+use table::{Answer, Decoded, Mode};
+use wording::TextRefusal;
+use writer::{Writer, give};
 
-// The largest choice: all three parts.
-const CHOICE_MAX: u8 = 7;
-
-// The parts of the row that `ins` decodes to in a mode that are chosen: bytes 1, instruction 2, T-states 4, added up. They are made in a
-// line of their own, so that nothing is written where they do not fit.
-pub fn text(mode: Mode, choice: u8, ins: &[u8], out: &mut [u8]) -> Written
+// The parts of the row that `ins` decodes to in a mode that are chosen: bytes 1, instruction 2, T-states 4, added up.
+// They are made in a line of their own, so that nothing is written where they do not fit.
+pub fn text(mode: Mode, choice: u8, ins: &[u8], out: &mut [u8]) -> Result<usize, TextRefusal>
     ensures { told_by result out.new ≡ text_outcome choice (decode_in mode ins.now) out.old }
 {
     if CHOICE_MAX < choice {
-        return Written::BadChoice;
+        return Err(TextRefusal::BadChoice);
     }
-    let decoded = disas(mode, ins);
-    let answer = decoded.answer;
-    let rec = decoded.rec;
+    let Decoded { answer, rec } = disas(mode, ins);
     match answer {
-        Answer::Done => {
-            let mut line = [0u8; OpCode::TEXT_MAX];
-            let n = put_text(&mut line, 0, rec, choice);
-            if give(&line[0..n], out) {
-                return Written::Done(n);
-            }
-            Written::NoRoom
-        }
-        Answer::Nothing => Written::Nothing,
-        Answer::Short(missing) => Written::Short(missing),
-        Answer::Long => Written::Long,
+        Answer::Done => {}
+        Answer::Nothing => return Err(TextRefusal::Nothing),
+        Answer::Short(missing) => return Err(TextRefusal::Short(missing)),
+        Answer::Long => return Err(TextRefusal::Long),
     }
+    let mut line = [0u8; OpCode::TEXT_MAX];
+    let mut writer = Writer::new(&mut line);
+    put_text(&mut writer, rec, choice);
+    let count = writer.at;
+    give(&writer.buf[..count], out).ok_or(TextRefusal::NoRoom)
 }

@@ -1,18 +1,20 @@
 -- What the edits' definitions imply: a record as decoding makes it stays one, and a refused edit's record is the one that came. Assumes nothing.
-use mathlib.Core.Path.{◌≡◌, refl, sym, ap, ◌∙◌}
-use mathlib.Core.Bool.{Bool, true, false, cond, true≢false}
+use mathlib.Core.Path.{◌≡◌, refl, ap, ◌∙◌}
+use mathlib.Core.Bool.{Bool, true, false, cond}
 use mathlib.Core.List.{List, [], ◌∷◌}
 use Prim.Native.Nat.{ℕ, zero, suc, ◌+◌, ◌-◌, ◌<◌, ◌≤◌}
 use native.Mathlib.Omega.{arith}
 use lib.ListN.{length, take, drop, get_or, get_or-eq_default}
 use lib.Seq.{get_or-take, get_or-drop, length-take-le}
 use lib.Dec.{ltb}
+use Rattle.std.proofs.lemmas.Grind.{common_steps}
 use borrow.Author.Tests.{ltb-true, ltb-false}
+use Rattle.std.specs.Prelude.{IfErr}
 use Rattle.opcode.specs.declared.counts.TStates.{TStates}
 use Rattle.opcode.specs.declared.timing.Timing.{Timing}
 use Rattle.opcode.specs.declared.record.OpCode.{OpCode}
 use Rattle.opcode.specs.Record.{unfilled, six}
-use Rattle.opcode.specs.Timing.{filled, listed, Formed, written, inserted, removed, timed, no, yes, may_insert, may_extend, may_remove, insert_of, extend_of, push_of, remove_of}
+use Rattle.opcode.specs.Timing.{filled, listed, Formed, written, inserted, removed, timed, no, yes, rec_of, may_insert, may_extend, may_remove, insert_of, extend_of, push_of, remove_of}
 use Rattle.timing.proofs.Laws.{each, six_at, mid, back, rest_len, removed_len, may_insert_lem, may_remove_lem, at_the_end}
 
 -- places behind the first n are zero
@@ -21,13 +23,7 @@ Clear l n = (k : ℕ) → n ≤ k → k < 6 → get_or l k unfilled ≡ unfilled
 
 -- the first n of six places, and zeros behind
 cut : (l : List TStates) (n k : ℕ) → length l ≡ 6 → n ≤ 6 → Clear l n → k < 6 → get_or l k unfilled ≡ get_or (take n l) k unfilled
-cut l n k six_long most clear h = by_test (ltb k n) refl
-  where
-    by_test : (b : Bool) → ltb k n ≡ b → get_or l k unfilled ≡ get_or (take n l) k unfilled
-    by_test true p = sym (get_or-take n l k unfilled (ltb-true k n p))
-    by_test false p =
-        clear k (ltb-false k n p) h
-        ∙ sym (get_or-eq_default (take n l) unfilled (omega (arith, ltb-false k n p, length-take-le n l (omega (arith, six_long, most)))))
+cut l n k six_long most clear h = grind (arith, common_steps, get_or-take {A = TStates}, get_or-eq_default {A = TStates}, length-take-le {A = TStates}, clear k)
 
 -- so it is with the places of a record that decoding makes, and such a record is made of them
 six_long : (r : OpCode) → Formed r → length r.tstates ≡ 6
@@ -50,16 +46,16 @@ zero_at zero = refl
 zero_at (suc k) = refl
 
 -- an edit behind its test
-formed : (b : Bool) (r : OpCode) (l : List TStates) (n : ℕ) → Formed r → (b ≡ true → (n ≤ 6) × Clear l n) → Formed (cond b (yes r l n) (no r)).rec
+formed : (b : Bool) (r : OpCode) (l : List TStates) (n : ℕ) → Formed r → (b ≡ true → (n ≤ 6) × Clear l n) → Formed (rec_of (cond b (yes r l n) (no r)))
 formed true r l n f g = timed_formed r l n (g refl).0 (g refl).1
 formed false r l n f g = f
 
-kept : (b : Bool) (r : OpCode) (l : List TStates) (n : ℕ) → (cond b (yes r l n) (no r)).ok ≡ false → (cond b (yes r l n) (no r)).rec ≡ r
-kept true r l n h = absurd (true≢false h)
-kept false r l n h = refl
+kept : (b : Bool) (r : OpCode) (l : List TStates) (n : ℕ) → IfErr (cond b (yes r l n) (no r)) (λ e. e ≡ r)
+kept true r l n = tt
+kept false r l n = refl
 
 module _ (r : OpCode) (f : Formed r) where
-  pub insert_formed : (pos : ℕ) (x : Timing) → length x.tstates ≡ 6 → Formed (insert_of r pos x).rec
+  pub insert_formed : (pos : ℕ) (x : Timing) → length x.tstates ≡ 6 → Formed (rec_of (insert_of r pos x))
   unfolding insert_of inserted
   insert_formed pos x those =
       formed (may_insert r.mcycles.0 pos x.mcycles.0) r (inserted r.tstates pos (listed x)) (r.mcycles.0 + x.mcycles.0) f (λ e.
@@ -71,7 +67,7 @@ module _ (r : OpCode) (f : Formed r) where
             ∙ clear r f (pos + (k - pos - length (listed x))) (omega (arith, h, long, past)) (omega (arith, h, long, past, in-six)),
       ))
 
-  pub extend_formed : (x : Timing) → length x.tstates ≡ 6 → Formed (extend_of r x).rec
+  pub extend_formed : (x : Timing) → length x.tstates ≡ 6 → Formed (rec_of (extend_of r x))
   unfolding extend_of written
   extend_formed x those =
       formed (may_extend r.mcycles.0 x.mcycles.0) r (written r.tstates r.mcycles.0 (listed x)) (r.mcycles.0 + x.mcycles.0) f (λ e.
@@ -84,7 +80,7 @@ module _ (r : OpCode) (f : Formed r) where
             ∙ clear r f (m + length (listed x) + (k - m - length (listed x))) (omega (arith, h, long, past)) (omega (arith, h, long, past, in-six)),
       ))
 
-  pub push_formed : (t : TStates) → Formed (push_of r t).rec
+  pub push_formed : (t : TStates) → Formed (rec_of (push_of r t))
   unfolding push_of extend_of
   push_formed t = extend_formed (record { tstates = t ∷ unfilled ∷ unfilled ∷ unfilled ∷ unfilled ∷ unfilled ∷ []; mcycles = record { 0 = 1 } }) refl
 
@@ -129,25 +125,25 @@ module _ (r : OpCode) (f : Formed r) where
             back (removed r.tstates pos) (unfilled ∷ []) (m - 1) (m - 1 + 1) k (omega (arith, long, most)) (omega (arith, fits, ltb-false k m p))
             ∙ shifted (m - 1 + 1 + (k - (m - 1) - 1)) (omega (arith, fits)) (omega (arith, fits, ltb-false k m p, in-six))
 
-  pub remove_formed : (pos : ℕ) → Formed (remove_of r pos).rec
+  pub remove_formed : (pos : ℕ) → Formed (rec_of (remove_of r pos))
   unfolding remove_of
   remove_formed pos =
       formed (may_remove r.mcycles.0 pos) r (written (removed r.tstates pos) (r.mcycles.0 - 1) (unfilled ∷ [])) (r.mcycles.0 - 1) f (λ e.
       let h = may_remove_lem r.mcycles.0 pos e in
       (omega (arith, h), left pos h.0 h.1))
 
-pub insert_kept : (r : OpCode) (pos : ℕ) (x : Timing) → (insert_of r pos x).ok ≡ false → (insert_of r pos x).rec ≡ r
+pub insert_kept : (r : OpCode) (pos : ℕ) (x : Timing) → IfErr (insert_of r pos x) (λ e. e ≡ r)
 unfolding insert_of
 insert_kept r pos x = kept (may_insert r.mcycles.0 pos x.mcycles.0) r (inserted r.tstates pos (listed x)) (r.mcycles.0 + x.mcycles.0)
 
-pub extend_kept : (r : OpCode) (x : Timing) → (extend_of r x).ok ≡ false → (extend_of r x).rec ≡ r
+pub extend_kept : (r : OpCode) (x : Timing) → IfErr (extend_of r x) (λ e. e ≡ r)
 unfolding extend_of
 extend_kept r x = kept (may_extend r.mcycles.0 x.mcycles.0) r (written r.tstates r.mcycles.0 (listed x)) (r.mcycles.0 + x.mcycles.0)
 
-pub push_kept : (r : OpCode) (t : TStates) → (push_of r t).ok ≡ false → (push_of r t).rec ≡ r
+pub push_kept : (r : OpCode) (t : TStates) → IfErr (push_of r t) (λ e. e ≡ r)
 unfolding push_of
 push_kept r t = kept (may_extend r.mcycles.0 1) r (written r.tstates r.mcycles.0 (t ∷ [])) (r.mcycles.0 + 1)
 
-pub remove_kept : (r : OpCode) (pos : ℕ) → (remove_of r pos).ok ≡ false → (remove_of r pos).rec ≡ r
+pub remove_kept : (r : OpCode) (pos : ℕ) → IfErr (remove_of r pos) (λ e. e ≡ r)
 unfolding remove_of
 remove_kept r pos = kept (may_remove r.mcycles.0 pos) r (written (removed r.tstates pos) (r.mcycles.0 - 1) (unfilled ∷ [])) (r.mcycles.0 - 1)

@@ -1,89 +1,64 @@
 // Six T-state places before and after an edit, and whether it may be done.
-ghost use Rattle.std.specs.Prelude.{◌≡◌, ◌+◌, ◌≤◌, ◌<◌, take, drop, get_or};
-ghost use Rattle.opcode.specs.Record.{unfilled, six};
-ghost use Rattle.opcode.specs.Timing.{written, inserted, removed, may_insert, may_remove};
+ghost use Rattle.std.specs.Prelude.{◌≡◌, ◌+◌, ◌≤◌, ◌<◌, length, IsTrue};
+ghost use Rattle.opcode.specs.Record.{six};
+ghost use Rattle.opcode.specs.Timing.{written, inserted, removed, may_extend, may_insert, may_remove};
 
 use opcode::counts::TStates;
 use opcode::record::OpCode;
 
-// Place k of t once n places of s, from `from` on, are written over those from `to` on.
-fn written_at(
-    t: [TStates; 6],
-    to: usize,
-    s: [TStates; 6],
-    from: usize,
-    n: usize,
-    k: usize,
-) -> TStates
-    requires { (to + n ≤ 6) × (from + n ≤ 6) × (k < 6) }
-    ensures { result ≡ get_or (written t to (take n (drop from s))) k unfilled }
+// With s over the places from `to` on.
+#[tactic(auto, unfolding(opcode::specs::Timing::written))]
+pub(crate) fn with_written(mut t: [TStates; 6], to: usize, s: &[TStates]) -> [TStates; 6]
+    requires { to + length s.now ≤ 6 }
+    ensures { result ≡ written t to s.now }
 {
-    if k < to {
-        return t[k];
-    }
-    if k < to + n {
-        return s[k - to + from];
-    }
-    t[k]
+    t[to..to + s.len()].copy_from_slice(s);
+    t
 }
 
-// All six places.
-pub(crate) fn with_written(
-    t: [TStates; 6],
-    to: usize,
-    s: [TStates; 6],
-    from: usize,
-    n: usize,
-) -> [TStates; 6]
-    requires { (to + n ≤ 6) × (from + n ≤ 6) }
-    ensures { result ≡ six (written t to (take n (drop from s))) }
+// With s put in before place pos: what stands there moves back, and what passes the sixth place is lost.
+#[tactic(auto, using(crate::proofs::Laws::copying, crate::proofs::Laws::inserting))]
+pub(crate) fn with_inserted(mut t: [TStates; 6], pos: usize, s: &[TStates]) -> [TStates; 6]
+    requires { pos + length s.now ≤ 6 }
+    ensures { result ≡ six (inserted t pos s.now) }
 {
-    [
-        written_at(t, to, s, from, n, 0),
-        written_at(t, to, s, from, n, 1),
-        written_at(t, to, s, from, n, 2),
-        written_at(t, to, s, from, n, 3),
-        written_at(t, to, s, from, n, 4),
-        written_at(t, to, s, from, n, 5),
-    ]
-}
-
-// With the first n of s put in before place pos: what stands there moves back, and what passes the sixth place is lost.
-pub(crate) fn with_inserted(t: [TStates; 6], pos: usize, s: [TStates; 6], n: usize) -> [TStates; 6]
-    requires { pos + n ≤ 6 }
-    ensures { result ≡ six (inserted t pos (take n s)) }
-{
-    let moved = with_written(t, pos + n, t, pos, OpCode::PLACES - n - pos);
-    with_written(moved, pos, s, 0, n)
+    t.copy_within(pos..OpCode::PLACES - s.len(), pos + s.len());
+    with_written(t, pos, s)
 }
 
 // Without place pos: what stands behind it moves up, and the sixth place stays as it is.
-pub(crate) fn without(t: [TStates; 6], pos: usize) -> [TStates; 6]
+#[tactic(auto, using(crate::proofs::Laws::copying, crate::proofs::Laws::removing))]
+pub(crate) fn without(mut t: [TStates; 6], pos: usize) -> [TStates; 6]
     requires { pos < 6 }
     ensures { result ≡ removed t pos }
 {
-    with_written(t, pos, t, pos + 1, OpCode::PLACES - 1 - pos)
+    t.copy_within(pos + 1.., pos);
+    t
+}
+
+// Is there room for n more than the m filled ones?
+#[tactic(auto, unfolding(opcode::specs::Timing::may_extend))]
+pub(crate) fn may_extend(m: usize, n: usize) -> bool
+    ensures rule { result ≡ may_extend m n }
+    ensures room { IsTrue result → m + n ≤ 6 }
+{
+    m <= OpCode::PLACES && n <= OpCode::PLACES - m
 }
 
 // Is there room for n more than the m filled ones, and is pos one of these or the next?
+#[tactic(auto, unfolding(opcode::specs::Timing::may_insert, opcode::specs::Timing::may_extend))]
 pub(crate) fn may_insert(m: usize, pos: usize, n: usize) -> bool
-    ensures { result ≡ may_insert m pos n }
+    ensures rule { result ≡ may_insert m pos n }
+    ensures room { IsTrue result → (pos ≤ m) × (m + n ≤ 6) }
 {
-    if OpCode::PLACES < m {
-        return false;
-    }
-    if m < pos {
-        return false;
-    }
-    n <= OpCode::PLACES - m
+    pos <= m && may_extend(m, n)
 }
 
 // Is pos one of m filled places, at most six?
+#[tactic(auto, unfolding(opcode::specs::Timing::may_remove))]
 pub(crate) fn may_remove(m: usize, pos: usize) -> bool
-    ensures { result ≡ may_remove m pos }
+    ensures rule { result ≡ may_remove m pos }
+    ensures filled { IsTrue result → (pos < m) × (m ≤ 6) }
 {
-    if OpCode::PLACES < m {
-        return false;
-    }
-    pos < m
+    m <= OpCode::PLACES && pos < m
 }

@@ -2,8 +2,7 @@
 use Rattle.std.specs.Prelude.{ℕ, cond, [], ◌∷◌, eqb}
 use Rattle.opcode.specs.declared.record.OpCode.{OpCode}
 use Rattle.table.specs.Row.{word_of}
-use Rattle.stage.specs.declared.rows.Stage.{Stage}
-use Rattle.stage.specs.Stage.{passed, answer, or_next}
+use Rattle.stage.specs.Stage.{Stage, passed, and_then, answer}
 use Rattle.two_bytes.specs.Cb.{cb_row}
 use Rattle.two_bytes.specs.Ed.{ed_row}
 use Rattle.two_bytes.specs.Immediate.{immediate_row}
@@ -16,4 +15,4 @@ words b n o =
     (passed o))
 
 unfoldable pub two_bytes : ℕ → ℕ → OpCode → Stage
-two_bytes b n o = or_next (answer (immediate_row b) (n ∷ []) o) (words b n o)
+two_bytes b n o = and_then (answer (immediate_row b) (n ∷ []) o) (words b n)

@@ -12,27 +12,26 @@ use opcode::operand::Operand;
 use opcode::record::OpCode;
 use opcode::registers::{FlagCondition, Reg8};
 use opcode::timing::Timing;
-use stage::cycles::{t2, t3};
-use stage::rows::{Stage, pass, row1, row2};
+use stage::cycles::cycles;
+use stage::rows::{Stage, pass, take};
 
 // SUB, AND, OR, XOR and CP name only the source.
 fn alu8imm(rec: OpCode, ins: Instruction, n: u8) -> Stage
     ensures { result ≡ answer (source_only ins) (n ∷ []) rec }
 {
-    row1(rec, 2, ins, Operand::Imm8(n), t2(4, 3))
+    take(rec, 2, ins, &[Operand::Imm8(n)], cycles(&[4, 3]))
 }
 
 // ADD, ADC and SBC carry A as first operand.
 fn alu8aimm(rec: OpCode, ins: Instruction, n: u8) -> Stage
     ensures { result ≡ answer (with_a ins) (n ∷ []) rec }
 {
-    row2(
+    take(
         rec,
         2,
         ins,
-        Operand::Reg8(Reg8::A),
-        Operand::Imm8(n),
-        t2(4, 3),
+        &[Operand::Reg8(Reg8::A), Operand::Imm8(n)],
+        cycles(&[4, 3]),
     )
 }
 
@@ -40,20 +39,19 @@ fn alu8aimm(rec: OpCode, ins: Instruction, n: u8) -> Stage
 fn jump(rec: OpCode, ins: Instruction, e: u8, t: Timing) -> Stage
     ensures { result ≡ took rec 2 ins (Place.Of (Operand.RelAddr (relative_of e))) Place.Empty Place.Empty t }
 {
-    row1(rec, 2, ins, Operand::RelAddr(relative(e)), t)
+    take(rec, 2, ins, &[Operand::RelAddr(relative(e))], t)
 }
 
 // JR cc, e
 fn jump_if(rec: OpCode, cond: FlagCondition, e: u8) -> Stage
     ensures { result ≡ answer (jump_if cond) (e ∷ []) rec }
 {
-    row2(
+    take(
         rec,
         2,
         Instruction::JR,
-        Operand::FlagCondition(cond),
-        Operand::RelAddr(relative(e)),
-        t3(4, 3, 5),
+        &[Operand::FlagCondition(cond), Operand::RelAddr(relative(e))],
+        cycles(&[4, 3, 5]),
     )
 }
 
@@ -61,8 +59,8 @@ pub(crate) fn disas_immediate(ins1: u8, ins2: u8, rec: OpCode) -> Stage
     ensures { result ≡ answer (immediate_row ins1) (ins2 ∷ []) rec }
 {
     match ins1 {
-        0x10 => jump(rec, Instruction::DJNZ, ins2, t3(5, 3, 5)),
-        0x18 => jump(rec, Instruction::JR, ins2, t3(4, 3, 5)),
+        0x10 => jump(rec, Instruction::DJNZ, ins2, cycles(&[5, 3, 5])),
+        0x18 => jump(rec, Instruction::JR, ins2, cycles(&[4, 3, 5])),
         0x38 => jump_if(rec, FlagCondition::C, ins2),
         0x30 => jump_if(rec, FlagCondition::NC, ins2),
         0x28 => jump_if(rec, FlagCondition::Z, ins2),
@@ -71,22 +69,20 @@ pub(crate) fn disas_immediate(ins1: u8, ins2: u8, rec: OpCode) -> Stage
         0xCE => alu8aimm(rec, Instruction::ADC, ins2),
         0xDE => alu8aimm(rec, Instruction::SBC, ins2),
         // OUT (n), A
-        0xD3 => row2(
+        0xD3 => take(
             rec,
             2,
             Instruction::OUT,
-            Operand::IOAddress(ins2),
-            Operand::Reg8(Reg8::A),
-            t3(4, 3, 4),
+            &[Operand::IOAddress(ins2), Operand::Reg8(Reg8::A)],
+            cycles(&[4, 3, 4]),
         ),
         // IN A, (n)
-        0xDB => row2(
+        0xDB => take(
             rec,
             2,
             Instruction::IN,
-            Operand::Reg8(Reg8::A),
-            Operand::IOAddress(ins2),
-            t3(4, 3, 4),
+            &[Operand::Reg8(Reg8::A), Operand::IOAddress(ins2)],
+            cycles(&[4, 3, 4]),
         ),
         0xD6 => alu8imm(rec, Instruction::SUB, ins2),
         0xE6 => alu8imm(rec, Instruction::AND, ins2),

@@ -1,4 +1,5 @@
-// The rows of two bytes, in two stages: LD r,n by a mask, and the rest: those with an operand byte, and the pages of ED and CB.
+// The rows of two bytes, in two stages: LD r,n by a mask, and the rest: those with an operand byte, and the pages
+// of ED and CB.
 #![tactic(auto)]
 
 ghost use Rattle.std.specs.Prelude.{◌≡◌, [], ◌∷◌};
@@ -19,10 +20,7 @@ mod mask;
 pub fn two_bytes(ins1: u8, ins2: u8, rec: OpCode) -> Stage
     ensures { result ≡ answer (of_length 2 (page_row ins1 ins2)) (operand_bytes (ins1 ∷ ins2 ∷ [])) rec }
 {
-    let masked = mask::disas_two_bytes_mask(ins1, ins2, rec);
-    if masked.ok {
-        return masked;
-    }
+    let rec = mask::disas_two_bytes_mask(ins1, ins2, rec)?;
     disas_two_bytes(ins1, ins2, rec)
 }
 
@@ -31,16 +29,11 @@ pub fn two_bytes(ins1: u8, ins2: u8, rec: OpCode) -> Stage
 fn disas_two_bytes(ins1: u8, ins2: u8, rec: OpCode) -> Stage
     ensures { result ≡ two_bytes ins1 ins2 rec }
 {
-    let immediate = immediate::disas_immediate(ins1, ins2, rec);
-    if immediate.ok {
-        return immediate;
-    }
+    let rec = immediate::disas_immediate(ins1, ins2, rec)?;
     let insw = word(ins2, ins1);
-    if ins1 == 0xED {
-        return ed::disas_ed(insw, ins2, rec);
+    match ins1 {
+        0xED => ed::disas_ed(insw, ins2, rec),
+        0xCB => cb::disas_cb(insw, ins2, rec),
+        _ => pass(rec),
     }
-    if ins1 == 0xCB {
-        return cb::disas_cb(insw, ins2, rec);
-    }
-    pass(rec)
 }

@@ -3,12 +3,13 @@
 use mathlib.Core.Path.{◌≡◌, refl, ap}
 use mathlib.Core.Bool.{Bool, true, false, cond, ◌&&◌, ◌||◌}
 use mathlib.Core.List.{List, [], ◌∷◌, ◌++◌}
-use Prim.Native.Nat.{ℕ, zero, suc, ◌+◌, ◌*◌, ◌≤◌, ◌<◌}
+use Prim.Native.Nat.{ℕ, ◌+◌, ◌*◌, ◌≤◌, ◌<◌}
 use native.Mathlib.Nat.{le_refl, le_trans}
 use native.Mathlib.Omega.{arith}
 use lib.Dec.{eqb, ltb, leb, leb→le}
 use lib.IntN.{ℤ}
 use lib.ListN.{length, take, drop, get_or, length-append, length-take}
+use Rattle.std.proofs.lemmas.List.{get_or-drop}
 use borrow.Author.Tests.{leb-true}
 use Rattle.opcode.specs.declared.instruction.Instruction.{Instruction}
 use Rattle.opcode.specs.declared.record.OpCode.{OpCode}
@@ -127,38 +128,28 @@ all_fit =
 
 -- bytes stay bytes behind the first ones
 pub drop_bytes : (n : ℕ) (s : List ℕ) → AllBytes s → AllBytes (drop n s)
-drop_bytes zero s bytes = bytes
-drop_bytes (suc n) [] bytes = bytes
-drop_bytes (suc n) (b ∷ s) bytes = drop_bytes n s (λ k. bytes (suc k))
+drop_bytes n s bytes k = rw get_or-drop (bytes (n + k))
 
 behind_bytes : (s : List ℕ) → AllBytes s → AllBytes (operand_bytes s)
 behind_bytes s bytes = chosen AllBytes (is_prefix (get_or s 0 0) || (eqb (get_or s 0 0) 0xCB || eqb (get_or s 0 0) 0xED)) (drop 2 s) (drop 1 s) (drop_bytes 2 s bytes) (drop_bytes 1 s bytes)
 
+-- a part where it is present, and its largest
+part_most : (u : Bool) (x : List ℕ) (b : ℕ) → length x ≤ b → length (part u x) ≤ cond u b 0
+part_most true x b most = most
+part_most false x b most = omega arith
+
+present_most : (u : Bool) (b : ℕ) → cond u b 0 ≤ b
+present_most true b = omega arith
+present_most false b = omega arith
+
 -- what a choice adds up to
 adds : (u v w : Bool) (x y z : List ℕ) (b i t : ℕ) → length x ≤ b → length y ≤ i → length z ≤ t → length (part u x ++ part v y ++ part w z) ≤ cond u b 0 + cond v i 0 + cond w t 0
-adds true true true x y z b i t p q r = simp length-append (omega arith)
-adds true true false x y z b i t p q r = simp length-append (omega arith)
-adds true false true x y z b i t p q r = simp length-append (omega arith)
-adds true false false x y z b i t p q r = simp length-append (omega arith)
-adds false true true x y z b i t p q r = simp length-append (omega arith)
-adds false true false x y z b i t p q r = simp length-append (omega arith)
-adds false false true x y z b i t p q r = simp length-append (omega arith)
-adds false false false x y z b i t p q r = omega arith
+adds u v w x y z b i t p q r = simp length-append (omega (arith, part_most u x b p, part_most v y i q, part_most w z t r))
 
 module _ (choice : ℕ) where
   -- a choice's largest is at most 52
   pub choice_most_lem : choice_most choice ≤ text_most
-  choice_most_lem = by_tests (has_bytes choice) (has_instruction choice) (has_times choice)
-    where
-      by_tests : (u v w : Bool) → cond u bytes_most 0 + cond v instruction_most 0 + cond w times_most 0 ≤ text_most
-      by_tests true true true = omega arith
-      by_tests true true false = omega arith
-      by_tests true false true = omega arith
-      by_tests true false false = omega arith
-      by_tests false true true = omega arith
-      by_tests false true false = omega arith
-      by_tests false false true = omega arith
-      by_tests false false false = omega arith
+  choice_most_lem = omega (arith, present_most (has_bytes choice) bytes_most, present_most (has_instruction choice) instruction_most, present_most (has_times choice) times_most)
 
   module _ (mode : Mode) (s : List ℕ) (bytes : AllBytes s) (done : (decode_in mode s).answer ≡ Answer.Done) where
     -- no text of a decoded record is longer than its choice's largest

@@ -1,5 +1,5 @@
 -- The laws of writing behind a place. Assumes nothing.
-use mathlib.Core.Path.{◌≡◌, refl, sym, ap, subst, ◌∙◌}
+use mathlib.Core.Path.{◌≡◌, refl, sym, ap, ◌∙◌}
 use mathlib.Core.List.{List, [], ◌∷◌, ◌++◌}
 use Prim.Native.Nat.{ℕ, zero, suc, ◌+◌, ◌≤◌, ◌<◌}
 use native.Mathlib.Numerals.{add-one}
@@ -7,6 +7,8 @@ use native.Mathlib.Omega.{arith}
 use lib.ListN.{length, set, take, drop}
 use lib.Seq.{take-append_seam}
 use Rattle.writer.specs.Wrote.{over, behind, Wrote}
+use Rattle.writer.specs.Puts.{Puts}
+use Rattle.writer.specs.declared.Writer.{Writer}
 
 over_one : (old : List ℕ) (i b : ℕ) → i < length old → (set old i b ≡ over old i (b ∷ [])) × (suc i ≡ behind old i (b ∷ []))
 over_one [] i b h = absurd (omega arith)
@@ -62,10 +64,6 @@ pub ◌▸◌ : {a b d : List ℕ} {i j k : ℕ} {s t : List ℕ} → Wrote a i 
     }
 
 infixl 5 ◌▸◌
--- the same text, told otherwise
-pub told : {old new : List ℕ} {i j : ℕ} {s t : List ℕ} → s ≡ t → Wrote old i s new j → Wrote old i t new j
-told {old} {new} {i} {j} e p = subst (λ (t : List ℕ). Wrote old i t new j) e p
-
 pub size : {old new t : List ℕ} {i j : ℕ} → Wrote old i t new j → length new ≡ length old
 size {old} {new} {t} {i} p = ap length p.bytes ∙ over_length old i t
 
@@ -79,3 +77,18 @@ module _ {old t new : List ℕ} {j : ℕ} (p : Wrote old 0 t new j) (h : length 
 
   pub front : take j new ≡ t
   front = ap (take j) whole ∙ ap (λ (n : ℕ). take n (t ++ drop (length t) old)) counted ∙ take-append_seam t (drop (length t) old)
+
+  pub filled : j ≡ length (take j new)
+  filled = counted ∙ sym (ap length front)
+
+-- The same through a writer: nothing, and a text behind another.
+pub put_none : (w : Writer) → Puts w [] w
+put_none w = record { same = refl; wrote = none w.buf.now w.at }
+
+pub ◌⟫◌ : {a b d : Writer} {s t : List ℕ} → Puts a s b → Puts b t d → Puts a (s ++ t) d
+p ⟫ q = record { same = q.same ∙ p.same; wrote = p.wrote ▸ q.wrote }
+
+infixl 5 ◌⟫◌
+-- the same text, told otherwise
+pub put_told : {a b : Writer} {s t : List ℕ} → s ≡ t → Puts a s b → Puts a t b
+put_told e p = rw (← e) p

@@ -1,42 +1,55 @@
-// Writing to lent bytes. A function that is given a place `at` writes behind what stands before it, as far as there is room,
-// and gives the place behind what it wrote.
+// Writing to lent bytes: each text behind what stands before it, as far as there is room.
 #![tactic(auto)]
 
-ghost use Rattle.std.specs.Prelude.{◌≡◌, cond, [], ◌∷◌, ◌++◌, leb, length, drop};
-ghost use Rattle.writer.specs.Wrote.{Wrote};
+ghost use Rattle.std.specs.Prelude.{◌≡◌, cond, Some, None, [], ◌∷◌, leb, length, drop, ◌++◌};
 
-// One byte.
-pub fn put(buf: &mut [u8], at: usize, b: u8) -> usize
-    ensures { Wrote buf.old at (b ∷ []) buf.new result }
-{
-    if buf.len() <= at {
-        return at;
-    }
-    buf[at] = b;
-    at + 1
+// Lent bytes, and the place in them behind what is written.
+#[derive(Drop)]
+pub struct Writer<'a> {
+    pub buf: &'a mut [u8],
+    pub at: usize,
 }
 
-// Every byte of `s`.
-pub fn put_bytes(buf: &mut [u8], at: usize, s: &[u8]) -> usize
-    ensures { Wrote buf.old at s.now buf.new result }
-{
-    let mut next = at;
-    let mut i = 0;
-    while i < s.len() {
-        next = put(buf, next, s[i]);
-        i += 1;
+impl<'a> Writer<'a> {
+    ghost use Rattle.writer.specs.Puts.{Puts};
+
+    // At the front of lent bytes.
+    pub fn new(buf: &'a mut [u8]) -> Writer<'a>
+        ensures same_reference { result.buf.ghost_name ≡ buf.entry.ghost_name }
+        ensures bytes { result.buf.now ≡ buf.old }
+        ensures front { result.at ≡ 0 }
+    {
+        Writer { buf, at: 0 }
     }
-    next
+
+    // One byte.
+    pub fn put(&mut self, b: u8)
+        ensures { Puts self.old (b ∷ []) self.new }
+    {
+        if self.at < self.buf.len() {
+            self.buf[self.at] = b;
+            self.at += 1;
+        }
+    }
+
+    // Every byte of `s`.
+    pub fn put_bytes(&mut self, s: &[u8])
+        ensures { Puts self.old s.now self.new }
+    {
+        for b in s {
+            self.put(*b);
+        }
+    }
 }
 
-// A whole text to the front of lent bytes, or nothing where it does not fit; says which.
-pub fn give(text: &[u8], out: &mut [u8]) -> bool
-    ensures answer { result ≡ leb (length text.now) (length out.old) }
+// A whole text to the front of lent bytes, with its count, or nothing where it does not fit.
+pub fn give(text: &[u8], out: &mut [u8]) -> Option<usize>
+    ensures answer { result ≡ cond (leb (length text.now) (length out.old)) (Some (length text.now)) None }
     ensures bytes { out.new ≡ cond (leb (length text.now) (length out.old)) (text.now ++ drop (length text.now) out.old) out.old }
 {
     if out.len() < text.len() {
-        return false;
+        return None;
     }
     out[..text.len()].copy_from_slice(text);
-    true
+    Some(text.len())
 }

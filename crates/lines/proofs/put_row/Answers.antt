@@ -3,7 +3,7 @@ use Rattle.std.proofs.Common.{◌≡◌, ℕ, ◌+◌, List, drop, get_or, refl}
 use Rattle.table.specs.declared.Decoded.{Decoded}
 use Rattle.table.specs.declared.Mode.{Mode}
 use Rattle.table.specs.Chip.{decode_in}
-use Rattle.writer.proofs.Laws.{told}
+use Rattle.writer.proofs.Laws.{put_told}
 use Rattle.line.specs.Line.{line_by}
 use Rattle.image.specs.Places.{window}
 use Rattle.listing.specs.Rows.{line_of, passed_of}
@@ -15,7 +15,7 @@ unfolding line_of
 is_line mode image origin place d e = rw (e, first_at place image) refl
 
 pub returns-clause-wrote : goal.returns-clause-wrote
-returns-clause-wrote c = told (is_line c.args.mode c.args.image.now c.args.origin c.args.place _ c.decode_at-decoded.ensures) c.put_line-next.ensures
+returns-clause-wrote c = put_told (is_line c.args.mode c.args.image.now.bytes.now c.args.image.now.origin c.args.place _ c.decode_at-decoded.ensures) (rw (c.address_of.ensures.inside c.requires) at c.put_line.ensures)
 
 pub returns-clause-passed : goal.returns-clause-passed
 unfolding passed_of

@@ -1,63 +1,30 @@
--- The tests in their order.
-use Rattle.std.proofs.Common.{refl}
-use borrow.Author.Tests.{eq-eqb, ne_eqb, lt-ltb, le-ltb}
+-- The answer, which the check finds, is the one that the marking rules name.
+use Rattle.std.proofs.Common.{◌≡◌, ℕ, List, rules}
+use Rattle.std.specs.Prelude.{Err}
+use Rattle.table.specs.declared.Mode.{Mode}
+use Rattle.marking.specs.declared.MapRefusal.{MapRefusal}
+use Rattle.marking.specs.Rules.{Chart}
+use Rattle.marking.specs.Verdict.{Checked, number_of, address_of, Verdict}
 use Rattle.marking.specs.Check.{check_of}
-use Rattle.map.proofs.Named.{named}
+use Rattle.flow.specs.Flow.{look_of}
+use Rattle.flow.proofs.Demand.{map_named}
 use Rattle.map.proofs.map_check.Goals as goal
 
-pub returns-then-is_wrong_size : goal.returns-then-is_wrong_size
-unfolding check_of
-returns-then-is_wrong_size c =
-    let n = named c.args.mode _ c.args.entries.now _ (rw (← c.is_wrong_size.ensures, c.if-is_wrong_size.true) refl) in
-    record { answer = n.0; rules = n.1 }
+named : (mode : Mode) (m : Chart) (es : List ℕ) (x : Checked) → x ≡ check_of (look_of mode) m es → Verdict (look_of mode) m es (number_of x) (address_of x)
+named mode m es x e = rw e (map_named mode m es)
 
-pub returns-then-marks-image : goal.returns-then-marks-image
+pub returns-then-is_wrong_count-clause-rules : goal.returns-then-is_wrong_count-clause-rules
 unfolding check_of
-returns-then-marks-image c =
-    let n = named c.args.mode _ c.args.entries.now _ (rw (← c.is_wrong_size.ensures, c.if-is_wrong_size.false) (rw (ne_eqb _ _ c.if-marks-image.true) refl)) in
-    record { answer = n.0; rules = n.1 }
+returns-then-is_wrong_count-clause-rules c = named c.args.mode _ _ (Err MapRefusal.EntryCount) (search rules)
 
-pub returns-then-is_wrong_count : goal.returns-then-is_wrong_count
+pub returns-in-Some-clause-rules : goal.returns-in-Some-clause-rules
 unfolding check_of
-returns-then-is_wrong_count c =
-    let n =
-    named c.args.mode _ c.args.entries.now _
-    (rw (← c.is_wrong_size.ensures, c.if-is_wrong_size.false)
-    (rw (eq-eqb _ _ c.if-marks-image.false)
-    (rw (← c.is_wrong_count.ensures, c.if-is_wrong_count.true) refl))) in
-    record { answer = n.0; rules = n.1 }
+returns-in-Some-clause-rules c = named c.args.mode _ _ (Err (MapRefusal.MarkValue c.address_of.result)) (search rules)
 
-pub returns-then-over-marks : goal.returns-then-over-marks
+pub returns-in-Some-first_entry-clause-rules : goal.returns-in-Some-first_entry-clause-rules
 unfolding check_of
-returns-then-over-marks c =
-    let n =
-    named c.args.mode _ c.args.entries.now _
-    (rw (← c.is_wrong_size.ensures, c.if-is_wrong_size.false)
-    (rw (eq-eqb _ _ c.if-marks-image.false)
-    (rw (← c.is_wrong_count.ensures, c.if-is_wrong_count.false)
-    (rw (← c.first_over-over.ensures, lt-ltb _ _ c.if-over-marks.true) refl)))) in
-    record { answer = n.0; rules = n.1 }
+returns-in-Some-first_entry-clause-rules c = named c.args.mode _ _ (Err (MapRefusal.EntryNotStart c.in-Some-first_entry.address)) (search rules)
 
-pub returns-in-At : goal.returns-in-At
+pub returns-clause-rules : goal.returns-clause-rules
 unfolding check_of
-returns-in-At c =
-    let n =
-    named c.args.mode _ c.args.entries.now _
-    (rw (← c.is_wrong_size.ensures, c.if-is_wrong_size.false)
-    (rw (eq-eqb _ _ c.if-marks-image.false)
-    (rw (← c.is_wrong_count.ensures, c.if-is_wrong_count.false)
-    (rw (← c.first_over-over.ensures, le-ltb _ _ c.if-over-marks.false)
-    (rw (← c.first_entry.ensures, c.in-At.is) refl))))) in
-    record { answer = n.0; rules = n.1 }
-
-pub returns-in-None : goal.returns-in-None
-unfolding check_of
-returns-in-None c =
-    let n =
-    named c.args.mode _ c.args.entries.now _
-    (rw (← c.is_wrong_size.ensures, c.if-is_wrong_size.false)
-    (rw (eq-eqb _ _ c.if-marks-image.false)
-    (rw (← c.is_wrong_count.ensures, c.if-is_wrong_count.false)
-    (rw (← c.first_over-over.ensures, le-ltb _ _ c.if-over-marks.false)
-    (rw (← c.first_entry.ensures, c.in-None.is) c.first_broken.ensures))))) in
-    record { answer = n.0; rules = n.1 }
+returns-clause-rules c = named c.args.mode _ _ c.first_broken.result (search rules)

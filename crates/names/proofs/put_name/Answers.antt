@@ -1,6 +1,6 @@
 -- By the rule of its table.
 use Rattle.wording.specs.Names.{names}
-use Rattle.writer.proofs.Laws.{told}
+use Rattle.writer.proofs.Laws.{put_told}
 use Rattle.names.proofs.Rules.{instruction_right}
 use Rattle.names.proofs.put_name.Goals as goal
 
@@ -10,4 +10,4 @@ put_spelling-requires c = (instruction_right c.args.ins _ c.instruction_number.e
 
 pub returns : goal.returns
 unfolding names
-returns c = told (instruction_right c.args.ins _ c.instruction_number.ensures).1 c.put_spelling.ensures
+returns c = put_told (instruction_right c.args.ins _ c.instruction_number.ensures).1 c.put_spelling.ensures

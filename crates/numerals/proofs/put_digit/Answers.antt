@@ -1,14 +1,13 @@
 -- The test decides whether a digit is written.
-use Rattle.std.proofs.Common.{arith}
 use borrow.Author.Tests.{lt-leb, le-leb}
 use Rattle.wording.specs.Digits.{digit_at}
-use Rattle.writer.proofs.Laws.{none}
+use Rattle.writer.proofs.Laws.{put_none}
 use Rattle.numerals.proofs.put_digit.Goals as goal
 
-pub returns-then-n-p : goal.returns-then-n-p
+pub returns-then-p-n : goal.returns-then-p-n
 unfolding digit_at
-returns-then-n-p c = rw (lt-leb c.args.p c.args.n (omega arith)) (none _ _)
+returns-then-p-n c = rw (le-leb c.args.p c.args.n c.if-p-n.true, ← c.digit.ensures) c.put.ensures
 
-pub returns : goal.returns
+pub returns-else-p-n : goal.returns-else-p-n
 unfolding digit_at
-returns c = rw (le-leb c.args.p c.args.n (omega arith), ← c.digit.ensures) c.put.ensures
+returns-else-p-n c = rw (lt-leb c.args.p c.args.n c.if-p-n.false) (put_none _)

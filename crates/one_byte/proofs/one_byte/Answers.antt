@@ -9,25 +9,27 @@ use Rattle.one_byte.specs.Byte.{byte_row}
 use Rattle.one_byte.proofs.Page.{page}
 use Rattle.one_byte.proofs.one_byte.Goals as goal
 
-pub returns-then-arithmetic : goal.returns-then-arithmetic
-returns-then-arithmetic c =
+pub returns-in_err-rec : goal.returns-in_err-rec
+returns-in_err-rec c =
     let b = c.args.ins in
     let o = c.args.rec in
-    takes (shift3_row b) (or_else (mask_row b) (byte_row b)) [] o _ c.disas_one_byte_shift3-arithmetic.ensures c.if-arithmetic.true
+    c.from_residual.ensures
+    ∙ takes (shift3_row b) (or_else (mask_row b) (byte_row b)) [] o _ c.in_err-rec.ensures
     ∙ page o b c.ranges.ins.fits
 
-pub returns-then-masked : goal.returns-then-masked
-returns-then-masked c =
+pub returns-in_err-rec-2 : goal.returns-in_err-rec-2
+returns-in_err-rec-2 c =
     let b = c.args.ins in
     let o = c.args.rec in
-    passes (shift3_row b) (or_else (mask_row b) (byte_row b)) [] o _ _ c.disas_one_byte_shift3-arithmetic.ensures c.if-arithmetic.false
-    (takes (mask_row b) (byte_row b) [] o _ c.disas_one_byte_mask-masked.ensures c.if-masked.true)
+    c.from_residual-in_err-rec-2.ensures
+    ∙ passes (shift3_row b) (or_else (mask_row b) (byte_row b)) [] o _ _ c.in_ok-rec.ensures
+    (takes (mask_row b) (byte_row b) [] _ _ (c.in_err-rec-2.ensures))
     ∙ page o b c.ranges.ins.fits
 
 pub returns : goal.returns
 returns c =
     let b = c.args.ins in
     let o = c.args.rec in
-    passes (shift3_row b) (or_else (mask_row b) (byte_row b)) [] o _ _ c.disas_one_byte_shift3-arithmetic.ensures c.if-arithmetic.false
-    (passes (mask_row b) (byte_row b) [] o _ _ c.disas_one_byte_mask-masked.ensures c.if-masked.false c.disas_one_byte.ensures)
+    passes (shift3_row b) (or_else (mask_row b) (byte_row b)) [] o _ _ c.in_ok-rec.ensures
+    (passes (mask_row b) (byte_row b) [] _ _ _ c.in_ok-rec-2.ensures c.disas_one_byte.ensures)
     ∙ page o b c.ranges.ins.fits

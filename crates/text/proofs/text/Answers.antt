@@ -1,6 +1,5 @@
 -- A decoded record's text has room in the line, and the part of the line that is given is the text itself.
-use Rattle.std.proofs.Common.{arith, ◌≡◌, ℕ, ◌-◌, ◌≤◌, Bool, cond, leb, List, ◌++◌, take, drop, length, refl, sym, ap}
-use mathlib.Core.Path.{◌∙◌}
+use Rattle.std.proofs.Common.{arith, ◌≡◌, ℕ, ◌≤◌, List, length, refl}
 use borrow.Author.Tests.{le-ltb}
 use Rattle.table.specs.declared.Answer.{Answer}
 use Rattle.table.specs.declared.Decoded.{Decoded}
@@ -9,45 +8,34 @@ use Rattle.table.specs.Chip.{decode_in}
 use Rattle.table.specs.Consequences.{AllBytes}
 use Rattle.wording.specs.Text.{text_of}
 use Rattle.wording.proofs.Longest.{any_most}
-use Rattle.writer.specs.Wrote.{Wrote}
-use Rattle.writer.proofs.Laws.{front, counted, size}
+use Rattle.writer.proofs.Laws.{filled}
+use Rattle.wording.specs.Answers.{outcome, told_by, given}
+use Rattle.wording.specs.declared.TextRefusal.{TextRefusal}
+use Rattle.std.specs.Option.{ok_or}
+use Rattle.std.specs.Prelude.{Option, Some, None, Bool, true, false, cond, leb}
+use Rattle.writer.proofs.Given.{count, left, whether, becomes}
 use Rattle.text.proofs.text.Goals as goal
 
 fits : (mode : Mode) (choice : ℕ) (ins : List ℕ) (d : Decoded) → AllBytes ins → d ≡ decode_in mode ins → d.answer ≡ Answer.Done → length (text_of choice d.rec) ≤ 52
 fits mode choice ins d bytes e done = rw e (any_most choice mode ins bytes (rw e at done))
 
--- the lent bytes once a text is given
-abbrev left : List ℕ → List ℕ → List ℕ
-left out t = cond (leb (length t) (length out)) (t ++ drop (length t) out) out
+by : (fits : Bool) (n : ℕ) (new out : List ℕ) → told_by (ok_or (cond fits (Some n) None) TextRefusal.NoRoom) (cond fits new out) ≡ cond fits (outcome 0 n 0 new) (outcome 4 0 0 out)
+by true n new out = refl
+by false n new out = refl
 
--- a text t in a line of n bytes
-module _ {old line t : List ℕ} {n : ℕ} (w : Wrote old 0 t line n) (room : length t ≤ length old) where
-  part : take (n - 0) line ≡ t
-  part = let e : n - 0 ≡ n = omega arith in ap (λ (m : ℕ). take m line) e ∙ front w room
-
-  whether : {fitted : Bool} (out : List ℕ) → fitted ≡ leb (length (take (n - 0) line)) (length out) → leb (length t) (length out) ≡ fitted
-  whether out e = sym (e ∙ ap (λ (l : List ℕ). leb (length l) (length out)) part)
-
-  becomes : {new : List ℕ} (out : List ℕ) → new ≡ left out (take (n - 0) line) → new ≡ left out t
-  becomes out e = e ∙ ap (left out) part
+-- what is answered, and left, of a text that was given
+told : {answer : Option ℕ} {new : List ℕ} (t out : List ℕ) → answer ≡ count out t → new ≡ left out t → told_by (ok_or answer TextRefusal.NoRoom) new ≡ given t out
+told t out e f = rw (e, f) (by (leb (length t) (length out)) (length t) _ out)
 
 pub slice_bounds-give-end : goal.slice_bounds-give-end
 slice_bounds-give-end c =
-    let room = fits c.args.mode c.args.choice c.args.ins.now c.disas-decoded.result (λ j. (c.type_inv.ins j).fits) c.disas-decoded.ensures.answer c.in-Done.is in
-    omega (arith, counted c.put_text-n.ensures room, room, size c.put_text-n.ensures)
+    let room = fits c.args.mode c.args.choice c.args.ins.now c.disas-answer.result (λ j. (c.type_inv.ins j).fits) c.disas-answer.ensures.answer c.in-Done.is in
+    let w = rw (c.new-writer.ensures.bytes, c.new-writer.ensures.front) at c.put_text.ensures.wrote in
+    omega (arith, filled w room)
 
-pub returns-then-give : goal.returns-then-give
-returns-then-give c =
-    let room = fits c.args.mode c.args.choice c.args.ins.now c.disas-decoded.result (λ j. (c.type_inv.ins j).fits) c.disas-decoded.ensures.answer c.in-Done.is in
-    let w = c.put_text-n.ensures in
-    let has = whether w room _ c.if-give.ensures.answer in
-    rw (le-ltb 7 c.args.choice (omega arith), ← c.disas-decoded.ensures.answer, c.in-Done.is, has)
-    (rw (counted w room, rw has at (becomes w room _ c.give.ensures.bytes)) refl)
-
-pub returns-else-give : goal.returns-else-give
-returns-else-give c =
-    let room = fits c.args.mode c.args.choice c.args.ins.now c.disas-decoded.result (λ j. (c.type_inv.ins j).fits) c.disas-decoded.ensures.answer c.in-Done.is in
-    let w = c.put_text-n.ensures in
-    let has = whether w room _ c.if-give.ensures.answer in
-    rw (le-ltb 7 c.args.choice (omega arith), ← c.disas-decoded.ensures.answer, c.in-Done.is, has)
-    (rw (rw has at (becomes w room _ c.give.ensures.bytes)) refl)
+pub returns : goal.returns
+returns c =
+    let room = fits c.args.mode c.args.choice c.args.ins.now c.disas-answer.result (λ j. (c.type_inv.ins j).fits) c.disas-answer.ensures.answer c.in-Done.is in
+    let w = rw (c.new-writer.ensures.bytes, c.new-writer.ensures.front) at c.put_text.ensures.wrote in
+    rw (le-ltb 7 c.args.choice (omega arith), ← c.disas-answer.ensures.answer, c.in-Done.is, c.ok_or.ensures.value)
+    (told _ _ (whether w room _ c.give.ensures.answer) (becomes w room _ c.give.ensures.bytes))

@@ -4,12 +4,13 @@ use Rattle.stage.proofs.Orders.{takes_next, passes_next}
 use Rattle.two_bytes.proofs.Pages.{page}
 use Rattle.two_bytes.proofs.two_bytes.Goals as goal
 
-pub returns-then-masked : goal.returns-then-masked
-returns-then-masked c =
-    takes_next _ _ _ c.disas_two_bytes_mask-masked.ensures c.if-masked.true
+pub returns-in_err-rec : goal.returns-in_err-rec
+returns-in_err-rec c =
+    c.from_residual.ensures
+    ∙ takes_next _ _ _ c.in_err-rec.ensures
     ∙ page c.args.rec c.args.ins1 c.args.ins2 c.ranges.ins1.fits c.ranges.ins2.fits
 
 pub returns : goal.returns
 returns c =
-    passes_next _ _ _ _ c.disas_two_bytes_mask-masked.ensures c.if-masked.false c.disas_two_bytes.ensures
+    passes_next _ _ _ _ c.in_ok-rec.ensures c.disas_two_bytes.ensures
     ∙ page c.args.rec c.args.ins1 c.args.ins2 c.ranges.ins1.fits c.ranges.ins2.fits

@@ -1,25 +1,56 @@
--- What was found says what the table says; each return rewrites the definitions with the tests that led there.
-use Rattle.std.proofs.Common.{◌≡◌, List, ℕ, length, refl, sym, ◌∙◌, ap, arith}
-use borrow.Author.Tests.{eq-eqb, ne_eqb, lt-ltb, le-ltb}
-use Rattle.table.specs.declared.Mode.{Mode}
-use Rattle.table.specs.Chip.{decode_in}
-use Rattle.table.specs.Consequences.{AllBytes}
-use Rattle.disas.specs.declared.Found.{Found}
-use Rattle.disas.specs.Says.{said, found_of}
-use Rattle.disas.proofs.Finding.{found_agrees}
+-- What was found says what the table says; a row needs room, and a refusal is told without.
+use mathlib.Core.Path.{◌≡◌, refl, sym, ◌∙◌}
+use mathlib.Core.Bool.{Bool, true, false, cond}
+use mathlib.Core.List.{List}
+use Prim.Native.Nat.{ℕ}
+use native.Mathlib.Omega.{arith}
+use lib.Dec.{leb, ltb}
+use lib.ListN.{length}
+use borrow.Author.Tests.{leb-true, leb-false, le-ltb, lt-ltb}
+use Rattle.std.specs.Prelude.{Ok, Err, Option, Some, None}
+use Rattle.table.specs.Decode.{number_of, missing_of}
+use Rattle.disas.specs.declared.Refusal.{Refusal}
+use Rattle.disas.specs.Says.{answer_of}
+use Rattle.disas.proofs.Finding.{found_told}
+use Rattle.exports.specs.Record.{outcome, number_below24}
 use Rattle.exports.proofs.record.z80_record.Goals as goal
 
-told : (mode : Mode) (ins : List ℕ) (f : Found) → AllBytes ins → f ≡ found_of mode ins → said f ≡ decode_in mode ins
-told mode ins f bytes e = ap said e ∙ found_agrees mode ins bytes
+-- that 24 bytes have room is that no fewer are lent
+fewer : (n : ℕ) (t : Bool) → leb 24 n ≡ t → ltb n 24 ≡ cond t false true
+fewer n true e = le-ltb n 24 (leb-true 24 n e)
+fewer n false e = lt-ltb n 24 (leb-false 24 n e)
 
-pub returns-then-n-eq0 : goal.returns-then-n-eq0
-returns-then-n-eq0 c =
-    rw (sym c.is_bad_mode.ensures ∙ c.if-is_bad_mode.false, ← c.mode_of.ensures, ← told c.mode_of.result c.args.ins.now c.find-f.result (λ k. (c.type_inv.ins k).fits) c.find-f.ensures, ← c.number-n.ensures, eq-eqb c.number-n.result 0 (omega arith), lt-ltb (length c.args.out.now) 24 (omega arith)) (rw c.missing.ensures refl)
+-- t being that 24 bytes are lent, x those bytes and y the same with the record written
+row_room : (t : Bool) (k : ℕ) (x y : List ℕ) → Some k ≡ cond t (Some 24) None → outcome 0 0 (cond t y x) ≡ cond (cond t false true) (outcome 4 0 x) (outcome 0 0 y)
+row_room true k x y e = refl
+row_room false k x y e = cc
 
-pub returns-then-out-lt-SIZE : goal.returns-then-out-lt-SIZE
-returns-then-out-lt-SIZE c =
-    rw (sym c.is_bad_mode.ensures ∙ c.if-is_bad_mode.false, ← c.mode_of.ensures, ← told c.mode_of.result c.args.ins.now c.find-f.result (λ k. (c.type_inv.ins k).fits) c.find-f.ensures, ← c.number-n.ensures, ne_eqb c.number-n.result 0 (λ e. omega arith), lt-ltb (length c.args.out.now) 24 (omega arith)) (rw c.missing.ensures refl)
+row_no_room : (t : Bool) (answer : Option ℕ) (x y : List ℕ) → answer ≡ cond t (Some 24) None → answer ≡ None → outcome 4 0 (cond t y x) ≡ cond (cond t false true) (outcome 4 0 x) (outcome 0 0 y)
+row_no_room true answer x y e f = cc
+row_no_room false answer x y e f = refl
 
-pub returns : goal.returns
-returns c =
-    rw (sym c.is_bad_mode.ensures ∙ c.if-is_bad_mode.false, ← c.mode_of.ensures, ← told c.mode_of.result c.args.ins.now c.find-f.result (λ k. (c.type_inv.ins k).fits) c.find-f.ensures, ← c.number-n.ensures, le-ltb (length c.args.out.now) 24 c.if-out-lt-SIZE.false) (rw (c.missing.ensures, c.copy_from_slice.ensures.after, c.fields-bytes.ensures) refl)
+told : (r : Refusal) (t : Bool) (x y : List ℕ) → let n = number_of (answer_of r) in let k = missing_of (answer_of r) in outcome n k (cond t y x) ≡ cond (cond t false true) (outcome (number_below24 n) k x) (outcome n k y)
+told Refusal.Nothing true x y = refl
+told Refusal.Nothing false x y = refl
+told (Refusal.Short k) true x y = refl
+told (Refusal.Short k) false x y = refl
+told Refusal.Long true x y = refl
+told Refusal.Long false x y = refl
+
+pub returns-in-Some : goal.returns-in-Some
+returns-in-Some c =
+    let said = found_told c.in-Ok.mode c.args.ins.now (Ok c.in-Ok-find.found) (λ k. (c.type_inv.ins k).fits) c.in-Ok-find.ensures in
+    let size : length c.layout_row.result ≡ 24 = omega arith in
+    rw (c.in-Ok.ensures.0, ← c.in-Ok.ensures.1, ← said, c.give.ensures.bytes, size, ← c.layout_row.ensures, fewer (length c.args.out.now) _ refl) (row_room _ c.in-Some.field-0 _ _ (sym c.in-Some.is ∙ (rw size at c.give.ensures.answer)))
+
+pub returns-in-None : goal.returns-in-None
+returns-in-None c =
+    let said = found_told c.in-Ok.mode c.args.ins.now (Ok c.in-Ok-find.found) (λ k. (c.type_inv.ins k).fits) c.in-Ok-find.ensures in
+    let size : length c.layout_row.result ≡ 24 = omega arith in
+    rw (c.in-Ok.ensures.0, ← c.in-Ok.ensures.1, ← said, c.give.ensures.bytes, size, ← c.layout_row.ensures, fewer (length c.args.out.now) _ refl) (row_no_room _ c.give.result _ _ (rw size at c.give.ensures.answer) c.in-None.is)
+
+pub returns-in-Err : goal.returns-in-Err
+returns-in-Err c =
+    let said = found_told c.in-Ok.mode c.args.ins.now (Err c.in-Err.refusal) (λ k. (c.type_inv.ins k).fits) c.in-Err.ensures in
+    let size : length c.layout.result ≡ 24 = omega arith in
+    rw (c.in-Ok.ensures.0, ← c.in-Ok.ensures.1, ← said, c.number.ensures, c.from.ensures, c.missing.ensures, c.from-answer.ensures, c.give-in-Err.ensures.bytes, size, c.layout.ensures, c.new.ensures, fewer (length c.args.out.now) _ refl) (told c.in-Err.refusal _ _ _)

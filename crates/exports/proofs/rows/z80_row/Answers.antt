@@ -5,10 +5,10 @@ use Rattle.exports.proofs.rows.z80_row.Goals as goal
 
 pub overflow_cast-count : goal.overflow_cast-count
 overflow_cast-count c =
-    let few = rw (← c.row-listed.ensures) at (count_most c.mode_of.result c.args.image.now c.args.origin c.args.address c.args.out.now (λ j. (c.type_inv.image j).fits)) in
+    let few = rw (← c.row.ensures) at (count_most c.in-Ok.mode c.args.image.now c.args.origin c.args.address c.args.out.now (λ j. (c.type_inv.image j).fits)) in
     record { fits = omega (arith, c.tell-told.ensures.count, few) }
 
 pub overflow_cast-passed : goal.overflow_cast-passed
 overflow_cast-passed c =
-    let few = rw (← c.row-listed.ensures) at (passed_over_most c.mode_of.result c.args.image.now c.args.origin c.args.address c.args.out.now) in
+    let few = rw (← c.row.ensures) at (passed_over_most c.in-Ok.mode c.args.image.now c.args.origin c.args.address c.args.out.now) in
     record { fits = omega (arith, c.tell-told.ensures.passed, few) }

@@ -5,5 +5,5 @@ use Rattle.exports.proofs.texts.z80_text.Goals as goal
 
 pub overflow_cast-count : goal.overflow_cast-count
 overflow_cast-count c =
-    let few = rw (← c.text-written.ensures) at (text_count c.args.choice c.mode_of.result c.args.ins.now (λ j. (c.type_inv.ins j).fits) c.args.out.now) in
+    let few = rw (← c.text.ensures) at (text_count c.args.choice c.in-Ok.mode c.args.ins.now (λ j. (c.type_inv.ins j).fits) c.args.out.now) in
     record { fits = omega (arith, c.tell-told.ensures.count, few) }

@@ -1,18 +1,46 @@
 -- Operands replaced, T-states put in and LD (IX+d),n mended are what the definition has at once.
+use mathlib.Core.Bool.{◌||◌}
 use mathlib.Core.List.{[], ◌∷◌}
-use mathlib.Core.Path.{◌≡◌, ap, sym, ◌∙◌}
+use mathlib.Core.Path.{◌≡◌, ap, ◌∙◌}
+use native.Mathlib.Omega.{arith}
 use borrow.Author.Tests.{le-ltb}
-use Rattle.stage.specs.declared.rows.Stage.{Stage}
 use Rattle.stage.specs.Stage.{taken}
-use Rattle.table.specs.Steps.{timing, named}
-use Rattle.four_bytes.specs.Replaced.{addr_record, lengthened, loaded, replaced}
-use Rattle.four_bytes.proofs.Prefixed.{with_addr_lem}
+use Rattle.table.specs.Steps.{has_addr, has_hl, timing, named}
+use Rattle.four_bytes.specs.Replaced.{addressed, renamed, lengthened, loaded, replaced}
+use Rattle.four_bytes.proofs.Prefixed.{told, untold, with_addr_lem}
 use Rattle.four_bytes.proofs.index.replace.Goals as goal
 
-pub returns-then-indexed : goal.returns-then-indexed
+pub lengthen-longer-requires : goal.lengthen-longer-requires
+lengthen-longer-requires c =
+    let x = told _ _ _ c.in-Some.ensures in
+    rw x.1 (omega arith)
+
+pub returns-in-Some : goal.returns-in-Some
 unfolding replaced
-returns-then-indexed c =
-    let mended : c.fix_load.result ≡ loaded c.args.n (lengthened (addr_record (named c.args.prefix) c.args.d c.args.rec).rec 2 (timing (4 ∷ 3 ∷ 5 ∷ []))) =
-    rw (c.lengthen-longer.ensures, c.t3.ensures, c.replace_hl_addr-indexed.ensures) at c.fix_load.ensures in
-    rw (le-ltb 4 c.args.rec.length.0 c.if-length-gt4.false, sym (ap (λ (r : Stage). r.ok) c.replace_hl_addr-indexed.ensures) ∙ c.if-indexed.true)
-    (ap taken (mended ∙ with_addr_lem (named c.args.prefix) c.args.d c.args.n c.args.rec))
+returns-in-Some c =
+    let o = c.args.rec in
+    let x = told (has_addr o.op1 || has_addr o.op2) (addressed (named c.args.prefix) c.args.d o) _ c.in-Some.ensures in
+    let mended : c.fix_load.result ≡ loaded c.args.n (lengthened (addressed (named c.args.prefix) c.args.d o) 2 (timing (4 ∷ 3 ∷ 5 ∷ []))) =
+    rw (c.lengthen-longer.ensures, c.cycles.ensures, x.1) at c.fix_load.ensures in
+    rw (le-ltb 4 o.length.0 c.if-rec-gt4.false, x.0) (ap taken (mended ∙ with_addr_lem (named c.args.prefix) c.args.d c.args.n o))
+
+pub lengthen-requires : goal.lengthen-requires
+lengthen-requires c =
+    let x = told _ _ _ c.in-Some-replace_hl.ensures in
+    rw x.1 (omega arith)
+
+pub returns-in-Some-replace_hl : goal.returns-in-Some-replace_hl
+unfolding replaced
+returns-in-Some-replace_hl c =
+    let o = c.args.rec in
+    let none = untold (has_addr o.op1 || has_addr o.op2) (addressed (named c.args.prefix) c.args.d o) c.in_default.ensures in
+    let x = told (has_hl o.op1 || has_hl o.op2) (renamed (named c.args.prefix) o) _ c.in-Some-replace_hl.ensures in
+    rw (le-ltb 4 o.length.0 c.if-rec-gt4.false, none, x.0) (ap taken (rw (c.cycles-in-Some-replace_hl.ensures, x.1) at c.lengthen.ensures))
+
+pub returns : goal.returns
+unfolding replaced
+returns c =
+    let o = c.args.rec in
+    let none = untold (has_addr o.op1 || has_addr o.op2) (addressed (named c.args.prefix) c.args.d o) c.in_default.ensures in
+    let neither = untold (has_hl o.op1 || has_hl o.op2) (renamed (named c.args.prefix) o) c.in_default-replace_hl.ensures in
+    rw (le-ltb 4 o.length.0 c.if-rec-gt4.false, none, neither) c.pass-2.ensures
