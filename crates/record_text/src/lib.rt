@@ -86,7 +86,7 @@ fn put_parts(out: &mut Writer, rec: OpCode, choice: u8)
     put_part(out, choice & 4 != 0, |out| put_times_part(out, rec));
 }
 
-// They are put through a writer of its own: all that it is lent to is inlined, so that its place stays in a register.
+// They are put through a writer of its own, whose place can stay in a register.
 pub fn put_text(out: &mut Writer, rec: OpCode, choice: u8)
     ensures { Puts out.old (text_of choice rec) out.new }
 {
@@ -95,6 +95,5 @@ pub fn put_text(out: &mut Writer, rec: OpCode, choice: u8)
         at: out.at,
     };
     put_parts(&mut own, rec, choice);
-    let at = own.at;
-    out.at = at;
+    out.at = own.at;
 }
