@@ -28,7 +28,7 @@ whole_of r n = cond (ltb n (r / 0x100000000 % 16)) (missing (r / 0x100000000 % 1
 
 -- a row of the ED page; an undefined code in four bytes is a NOP
 unfoldable pub whole_ed : ℕ → ℕ → Result ℕ Bytes
-whole_ed r n = cond (eqb r 0) (cond (ltb n 4) (missing (4 - n)) (Ok nop)) (whole_of r n)
+whole_ed r n = cond (eqb r 0) (cond (eqb n 4) (Ok nop) (missing (4 - n))) (whole_of r n)
 
 -- the row of the bytes s, p being what the prefix step makes of them
 unfoldable pub chain_of : ℕ → List ℕ → Result ℕ Bytes
@@ -42,9 +42,9 @@ chain_of p s =
 abbrev pub rest_of : List ℕ → Result ℕ Bytes
 rest_of s = chain_of 0 s
 
--- what the prefix p makes of what is behind it; where no row is, a NOP
+-- what the prefix p makes of what is behind it; where no row is, and a number below 16 is none, a NOP
 abbrev pub changed_by : ℕ → Result ℕ Bytes → ℕ
-changed_by p (Ok r) = changed_of p r
+changed_by p (Ok r) = cond (ltb r 16) nop (changed_of p r)
 changed_by p (Err k) = nop
 
 -- the prefix step, r being what the bytes behind the prefix are

@@ -7,7 +7,7 @@ ghost use Rattle.exports.specs.Record.{outcome, record_outcome};
 use super::modes::BAD_MODE;
 use answers::decodes::{missing as missing_of, number};
 use disas::find;
-use layout::{layout, layout_row};
+use layout::{SIZE, layout, layout_row};
 use opcode::record::OpCode;
 use table::{Answer, Mode};
 use writer::give;
@@ -24,10 +24,11 @@ pub fn z80_record(mode: u8, ins: &[u8], out: &mut [u8], missing: &mut u32) -> u8
     match find(mode, ins) {
         Ok(found) => {
             *missing = 0;
-            match give(&layout_row(found), out) {
-                Some(_) => 0,
-                None => 4,
+            if out.len() < SIZE {
+                return 4;
             }
+            give(&layout_row(found), out);
+            0
         }
         Err(refusal) => {
             let answer = Answer::from(refusal);

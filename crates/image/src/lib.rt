@@ -1,7 +1,7 @@
 // An image, whose first byte stands at the address `origin`, and its places.
 #![tactic(auto)]
 
-ghost use Rattle.std.specs.Prelude.{◌≡◌, ℕ, ◌+◌, ◌%◌, ◌<◌, ◌≤◌, IfSome, is_none, length, drop, slice_index};
+ghost use Rattle.std.specs.Prelude.{◌≡◌, ℕ, ◌+◌, ◌-◌, ◌%◌, ◌<◌, ◌≤◌, IfSome, is_none, length, drop, min, slice_index};
 ghost use Rattle.image.specs.Places.{wrong_size, outside, window};
 
 // The addresses that there are: an image ends with the last of them at the latest.
@@ -39,8 +39,10 @@ impl<'a> Image<'a> {
         ensures inside { IfSome result (λ place. place < length self.now.bytes.now) }
         ensures found { IfSome result (λ place. self.now.origin + place ≡ address) }
     {
-        let place = usize::from(address.checked_sub(self.origin)?);
-        (place < self.bytes.len()).then_some(place)
+        if is_outside(self.bytes, self.origin, address) {
+            return None;
+        }
+        Some(usize::from(address - self.origin))
     }
 
     // The address of a place; places count on behind the last address.
@@ -52,10 +54,27 @@ impl<'a> Image<'a> {
     }
 }
 
-// The bytes that are looked at at a place: up to four, none past the end, and behind it none.
+// 1, Nothing: the address is outside the bytes, of whatever size they are.
+pub fn is_outside(bytes: &[u8], origin: u16, address: u16) -> bool
+    ensures { result ≡ outside bytes.now origin address }
+{
+    address < origin || bytes.len() <= usize::from(address - origin)
+}
+
+// The end of the bytes that are looked at at a place: up to four, none past the end, and behind it none.
+pub fn window_end(place: usize, length: usize) -> usize
+    ensures { result ≡ place + min 4 (length - place) }
+{
+    if length <= place {
+        return place;
+    }
+    place + WINDOW_MAX.min(length - place)
+}
+
+// The bytes that are looked at at a place.
 pub fn window_of(bytes: &[u8], place: usize) -> &[u8]
     ensures { result.now ≡ window (drop place bytes.now) }
 {
-    let rest = &bytes[place.min(bytes.len())..];
-    &rest[..rest.len().min(WINDOW_MAX)]
+    let start = place.min(bytes.len());
+    &bytes[start..window_end(start, bytes.len())]
 }

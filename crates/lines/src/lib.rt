@@ -3,6 +3,7 @@
 
 ghost use Rattle.std.specs.Prelude.{◌≡◌, ◌+◌, ◌<◌, leb, length, drop};
 ghost use Rattle.writer.specs.Puts.{Puts};
+ghost use Rattle.writer.specs.Wrote.{Wrote};
 ghost use Rattle.image.specs.Places.{window};
 ghost use Rattle.listing.specs.Rows.{line_of, passed_of};
 ghost use Rattle.listing.specs.Answers.{told_by, row_outcome};
@@ -26,6 +27,20 @@ fn put_row(mode: Mode, image: &Image, place: usize, out: &mut Writer) -> usize
     passed(decoded)
 }
 
+// The row at a place of the image, its line to the front of lent bytes.
+fn row_in(mode: Mode, image: &Image, place: usize, line: &mut [u8]) -> Lines
+    requires { place < length image.now.bytes.now }
+    ensures wrote { Wrote line.old 0 (line_of mode (image.now.origin + place) (window (drop place image.now.bytes.now))) line.new result.count }
+    ensures passed { result.passed ≡ passed_of mode (window (drop place image.now.bytes.now)) }
+{
+    let mut writer = Writer::new(line);
+    let passed = put_row(mode, image, place, &mut writer);
+    Lines {
+        count: writer.at,
+        passed,
+    }
+}
+
 // The row at an address of the image, whose first byte stands at `origin`, in a mode: its line to the front of `out`.
 // It is made in a place of its own, so that nothing is written where it does not fit.
 pub fn row(
@@ -40,10 +55,8 @@ pub fn row(
     let image = Image::new(image, origin).ok_or(ListingRefusal::ImageSize)?;
     let place = image.place_of(address).ok_or(ListingRefusal::Nothing)?;
     let mut line = [0u8; LINE_MAX];
-    let mut writer = Writer::new(&mut line);
-    let passed = put_row(mode, &image, place, &mut writer);
-    let end = writer.at;
-    let count = give(&writer.buf[..end], out).ok_or(ListingRefusal::NoRoom)?;
+    let Lines { count, passed } = row_in(mode, &image, place, &mut line);
+    let count = give(&line[..count], out).ok_or(ListingRefusal::NoRoom)?;
     Ok(Lines { count, passed })
 }
 

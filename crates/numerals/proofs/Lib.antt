@@ -1,4 +1,3 @@
 pub mod Each
 pub mod Sign
-pub mod Spelt
 pub mod Worked

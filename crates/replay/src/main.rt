@@ -48,10 +48,21 @@ impl Request {
     }
 }
 
+const DIGITS: [u8; 16] = *b"0123456789ABCDEF";
+
+// A byte as two digits, which go out together: of `{byte:02X}` a zero in front would be a write of its own.
+fn hex(byte: u8) -> [u8; 2] {
+    [
+        DIGITS[usize::from(byte / 16)],
+        DIGITS[usize::from(byte % 16)],
+    ]
+}
+
 // The input bytes, the answer number and the fewest missing bytes.
 fn write_head<W: Write>(output: &mut W, ins: &[u8], number: u8, missing: u32) -> io::Result<()> {
     for byte in ins {
-        write!(output, "{byte:02X} ")?;
+        output.write_all(&hex(*byte))?;
+        output.write_all(b" ")?;
     }
     write!(output, "= {number} {missing}")
 }
@@ -64,7 +75,8 @@ fn write_record<W: Write>(output: &mut W, request: &Request) -> io::Result<()> {
     let number = z80_record(0, ins, &mut record, &mut missing);
     write_head(output, ins, number, missing)?;
     for byte in &record {
-        write!(output, " {byte:02X}")?;
+        output.write_all(b" ")?;
+        output.write_all(&hex(*byte))?;
     }
     Ok(())
 }

@@ -3,7 +3,9 @@
 
 ghost use Rattle.std.specs.Prelude.{◌≡◌};
 ghost use Rattle.table.specs.Chip.{decode_in};
+ghost use Rattle.wording.specs.Text.{text_of};
 ghost use Rattle.wording.specs.Answers.{told_by, text_outcome};
+ghost use Rattle.writer.specs.Wrote.{Wrote};
 
 use disas::disas;
 use opcode::record::OpCode;
@@ -11,6 +13,15 @@ use record_text::{CHOICE_MAX, put_text};
 use table::{Answer, Decoded, Mode};
 use wording::TextRefusal;
 use writer::{Writer, give};
+
+// The chosen parts of a record's text to the front of a line, and their count.
+fn text_in(line: &mut [u8], rec: OpCode, choice: u8) -> usize
+    ensures { Wrote line.old 0 (text_of choice rec) line.new result }
+{
+    let mut writer = Writer::new(line);
+    put_text(&mut writer, rec, choice);
+    writer.at
+}
 
 // The parts of the row that `ins` decodes to in a mode that are chosen: bytes 1, instruction 2, T-states 4, added up.
 // They are made in a line of their own, so that nothing is written where they do not fit.
@@ -28,8 +39,6 @@ pub fn text(mode: Mode, choice: u8, ins: &[u8], out: &mut [u8]) -> Result<usize,
         Answer::Long => return Err(TextRefusal::Long),
     }
     let mut line = [0u8; OpCode::TEXT_MAX];
-    let mut writer = Writer::new(&mut line);
-    put_text(&mut writer, rec, choice);
-    let count = writer.at;
-    give(&writer.buf[..count], out).ok_or(TextRefusal::NoRoom)
+    let count = text_in(&mut line, rec, choice);
+    give(&line[..count], out).ok_or(TextRefusal::NoRoom)
 }

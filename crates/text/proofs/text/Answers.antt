@@ -8,7 +8,7 @@ use Rattle.table.specs.Chip.{decode_in}
 use Rattle.table.specs.Consequences.{AllBytes}
 use Rattle.wording.specs.Text.{text_of}
 use Rattle.wording.proofs.Longest.{any_most}
-use Rattle.writer.proofs.Laws.{filled}
+use Rattle.writer.proofs.Laws.{filled, counted, size}
 use Rattle.wording.specs.Answers.{outcome, told_by, given}
 use Rattle.wording.specs.declared.TextRefusal.{TextRefusal}
 use Rattle.std.specs.Option.{ok_or}
@@ -27,15 +27,19 @@ by false n new out = refl
 told : {answer : Option ℕ} {new : List ℕ} (t out : List ℕ) → answer ≡ count out t → new ≡ left out t → told_by (ok_or answer TextRefusal.NoRoom) new ≡ given t out
 told t out e f = rw (e, f) (by (leb (length t) (length out)) (length t) _ out)
 
+pub slice_bounds-line-end : goal.slice_bounds-line-end
+slice_bounds-line-end c =
+    let room = fits c.args.mode c.args.choice c.args.ins.now c.disas-answer.result (λ j. (c.type_inv.ins j).fits) c.disas-answer.ensures.answer c.in-Done.is in
+    let w = c.text_in-count.ensures in
+    omega (arith, counted w room, room, size w)
+
 pub slice_bounds-give-end : goal.slice_bounds-give-end
 slice_bounds-give-end c =
-    let room = fits c.args.mode c.args.choice c.args.ins.now c.disas-answer.result (λ j. (c.type_inv.ins j).fits) c.disas-answer.ensures.answer c.in-Done.is in
-    let w = rw (c.new-writer.ensures.bytes, c.new-writer.ensures.front) at c.put_text.ensures.wrote in
-    omega (arith, filled w room)
+    filled c.text_in-count.ensures (fits c.args.mode c.args.choice c.args.ins.now c.disas-answer.result (λ j. (c.type_inv.ins j).fits) c.disas-answer.ensures.answer c.in-Done.is)
 
 pub returns : goal.returns
 returns c =
     let room = fits c.args.mode c.args.choice c.args.ins.now c.disas-answer.result (λ j. (c.type_inv.ins j).fits) c.disas-answer.ensures.answer c.in-Done.is in
-    let w = rw (c.new-writer.ensures.bytes, c.new-writer.ensures.front) at c.put_text.ensures.wrote in
+    let w = c.text_in-count.ensures in
     rw (le-ltb 7 c.args.choice (omega arith), ← c.disas-answer.ensures.answer, c.in-Done.is, c.ok_or.ensures.value)
     (told _ _ (whether w room _ c.give.ensures.answer) (becomes w room _ c.give.ensures.bytes))

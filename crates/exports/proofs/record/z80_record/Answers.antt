@@ -1,13 +1,13 @@
 -- What was found says what the table says; a row needs room, and a refusal is told without.
-use mathlib.Core.Path.{◌≡◌, refl, sym, ◌∙◌}
+use mathlib.Core.Path.{◌≡◌, refl}
 use mathlib.Core.Bool.{Bool, true, false, cond}
 use mathlib.Core.List.{List}
 use Prim.Native.Nat.{ℕ}
 use native.Mathlib.Omega.{arith}
 use lib.Dec.{leb, ltb}
 use lib.ListN.{length}
-use borrow.Author.Tests.{leb-true, leb-false, le-ltb, lt-ltb}
-use Rattle.std.specs.Prelude.{Ok, Err, Option, Some, None}
+use borrow.Author.Tests.{leb-true, leb-false, le-leb, le-ltb, lt-ltb}
+use Rattle.std.specs.Prelude.{Ok, Err}
 use Rattle.table.specs.Decode.{number_of, missing_of}
 use Rattle.disas.specs.declared.Refusal.{Refusal}
 use Rattle.disas.specs.Says.{answer_of}
@@ -20,15 +20,6 @@ fewer : (n : ℕ) (t : Bool) → leb 24 n ≡ t → ltb n 24 ≡ cond t false tr
 fewer n true e = le-ltb n 24 (leb-true 24 n e)
 fewer n false e = lt-ltb n 24 (leb-false 24 n e)
 
--- t being that 24 bytes are lent, x those bytes and y the same with the record written
-row_room : (t : Bool) (k : ℕ) (x y : List ℕ) → Some k ≡ cond t (Some 24) None → outcome 0 0 (cond t y x) ≡ cond (cond t false true) (outcome 4 0 x) (outcome 0 0 y)
-row_room true k x y e = refl
-row_room false k x y e = cc
-
-row_no_room : (t : Bool) (answer : Option ℕ) (x y : List ℕ) → answer ≡ cond t (Some 24) None → answer ≡ None → outcome 4 0 (cond t y x) ≡ cond (cond t false true) (outcome 4 0 x) (outcome 0 0 y)
-row_no_room true answer x y e f = cc
-row_no_room false answer x y e f = refl
-
 told : (r : Refusal) (t : Bool) (x y : List ℕ) → let n = number_of (answer_of r) in let k = missing_of (answer_of r) in outcome n k (cond t y x) ≡ cond (cond t false true) (outcome (number_below24 n) k x) (outcome n k y)
 told Refusal.Nothing true x y = refl
 told Refusal.Nothing false x y = refl
@@ -37,17 +28,17 @@ told (Refusal.Short k) false x y = refl
 told Refusal.Long true x y = refl
 told Refusal.Long false x y = refl
 
-pub returns-in-Some : goal.returns-in-Some
-returns-in-Some c =
+pub returns-then-out-lt-SIZE : goal.returns-then-out-lt-SIZE
+returns-then-out-lt-SIZE c =
     let said = found_told c.in-Ok.mode c.args.ins.now (Ok c.in-Ok-find.found) (λ k. (c.type_inv.ins k).fits) c.in-Ok-find.ensures in
-    let size : length c.layout_row.result ≡ 24 = omega arith in
-    rw (c.in-Ok.ensures.0, ← c.in-Ok.ensures.1, ← said, c.give.ensures.bytes, size, ← c.layout_row.ensures, fewer (length c.args.out.now) _ refl) (row_room _ c.in-Some.field-0 _ _ (sym c.in-Some.is ∙ (rw size at c.give.ensures.answer)))
+    rw (c.in-Ok.ensures.0, ← c.in-Ok.ensures.1, ← said, lt-ltb (length c.args.out.now) 24 c.if-out-lt-SIZE.true) refl
 
-pub returns-in-None : goal.returns-in-None
-returns-in-None c =
+pub returns-else-out-lt-SIZE : goal.returns-else-out-lt-SIZE
+returns-else-out-lt-SIZE c =
     let said = found_told c.in-Ok.mode c.args.ins.now (Ok c.in-Ok-find.found) (λ k. (c.type_inv.ins k).fits) c.in-Ok-find.ensures in
     let size : length c.layout_row.result ≡ 24 = omega arith in
-    rw (c.in-Ok.ensures.0, ← c.in-Ok.ensures.1, ← said, c.give.ensures.bytes, size, ← c.layout_row.ensures, fewer (length c.args.out.now) _ refl) (row_no_room _ c.give.result _ _ (rw size at c.give.ensures.answer) c.in-None.is)
+    let room = c.if-out-lt-SIZE.false in
+    rw (c.in-Ok.ensures.0, ← c.in-Ok.ensures.1, ← said, le-ltb (length c.args.out.now) 24 room, c.give.ensures.bytes, size, le-leb 24 (length c.args.out.now) room, c.layout_row.ensures) refl
 
 pub returns-in-Err : goal.returns-in-Err
 returns-in-Err c =
